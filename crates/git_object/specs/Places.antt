@@ -1,0 +1,42 @@
+-- The places at which bytes leave a grammar: all units before a place are whole and good, and no good unit stands there.
+use Rattle.std.specs.Prelude.{◌≡◌, ℕ, ◌<◌, ◌≤◌, ◌⊎◌, List, ◌++◌, length, take, drop, codes, Option}
+use Rattle.std.specs.List.{AllByRecursion}
+use Rattle.rad_base.specs.Sizes.{IsOid}
+use Rattle.rad_base.specs.declared.names.Oid.{Oid}
+use Rattle.git_object.specs.Grammar.{BeginsWith, Entry, IsBelow, IsEntry, IsTree, entry_text, key_of, oid_line, parents_text}
+
+-- no entry that may stand behind a key stands at the front
+abbrev pub HasNoEntryAbove : Option (List ℕ) → List ℕ → Type 0
+HasNoEntryAbove last bytes = (entry : Entry) (rest : List ℕ) → IsEntry entry → bytes ≡ entry_text entry ++ rest → IsBelow last (key_of entry) → ⊥
+
+-- what stands before the place is a tree, and no entry at the place would make it a longer one
+pub record BreaksTree (bytes : List ℕ) (place : ℕ) : Type 0 where
+  pub inside : place < length bytes
+  pub before : IsTree (take place bytes)
+  pub broken : (entry : Entry) (rest : List ℕ) → drop place bytes ≡ entry_text entry ++ rest → IsTree (take place bytes ++ entry_text entry) → ⊥
+
+-- no line of the word and a name stands at the front
+abbrev pub HasNoLine : List ℕ → List ℕ → Type 0
+HasNoLine word bytes = (oid : Oid) (rest : List ℕ) → IsOid oid → bytes ≡ oid_line word oid ++ rest → ⊥
+
+-- lines of parents stand before a rest, and none at its front
+pub record StandsBehindParents (bytes rest : List ℕ) : Type 0 where
+  pub parents : List Oid
+  pub each : AllByRecursion IsOid parents
+  pub text : bytes ≡ parents_text parents ++ rest
+  pub no_parent : HasNoLine (codes "parent ") rest
+
+-- the line of the tree and lines of parents stand before the place, and neither a parent's line nor `author ` at it
+pub record BreaksBehindTree (bytes : List ℕ) (place : ℕ) : Type 0 where
+  pub tree : Oid
+  pub parents : List Oid
+  pub tree_is : IsOid tree
+  pub parents_are : AllByRecursion IsOid parents
+  pub inside : place ≤ length bytes
+  pub before : take place bytes ≡ oid_line (codes "tree ") tree ++ parents_text parents
+  pub no_parent : HasNoLine (codes "parent ") (drop place bytes)
+  pub no_rest : BeginsWith (codes "author ") (drop place bytes) → ⊥
+
+-- no line of a tree stands at the front, or the break is behind it
+abbrev pub BreaksCommit : List ℕ → ℕ → Type 0
+BreaksCommit bytes place = ((place ≡ 0) × HasNoLine (codes "tree ") bytes) ⊎ BreaksBehindTree bytes place

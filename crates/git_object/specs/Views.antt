@@ -1,0 +1,36 @@
+-- What the values of the program stand for.
+use Rattle.std.specs.Prelude.{◌≡◌, ◌++◌, ℕ, List, Option, None, Some}
+use Rattle.rad_base.specs.declared.names.Oid.{Oid}
+use Rattle.git_object.specs.Grammar.{Commit, Entry, IsBelow, IsEntry, entry_text, key_of}
+use Rattle.git_object.specs.Reading.{entries_in, parents_in}
+use Rattle.git_object.specs.declared.entry.TreeEntry.{TreeEntry}
+use Rattle.git_object.specs.declared.tree.TreeEntries.{TreeEntries}
+use Rattle.git_object.specs.declared.commit.Parents.{Parents}
+use Rattle.git_object.specs.declared.commit.CommitParts.{CommitParts}
+
+-- an entry, without where its name lies
+abbrev pub entry_of : TreeEntry → Entry
+entry_of entry = record { mode = entry.mode; name = entry.name.now; oid = entry.oid }
+
+-- the entries that an iterator has left
+abbrev pub entries_of : TreeEntries → List Entry
+entries_of entries = entries_in entries.rest.now
+
+-- the parents that an iterator has left
+abbrev pub parents_of : Parents → List Oid
+parents_of parents = parents_in parents.rest.now
+
+-- the commit of some parts
+abbrev pub commit_of : CommitParts → Commit
+commit_of parts = record { tree = parts.tree; parents = parents_of parts.parents; rest = parts.rest.now }
+
+-- the key of the entry before, where there is one
+abbrev pub last_key : Option TreeEntry → Option (List ℕ)
+last_key None = None
+last_key (Some entry) = Some (key_of (entry_of entry))
+
+-- an entry stands in front of a rest, and may come behind a key
+pub record FollowsFrom (last : Option (List ℕ)) (bytes : List ℕ) (entry : TreeEntry) (rest : List ℕ) : Type 0 where
+  pub is : IsEntry (entry_of entry)
+  pub text : bytes ≡ entry_text (entry_of entry) ++ rest
+  pub above : IsBelow last (key_of (entry_of entry))
