@@ -1,0 +1,16 @@
+-- The state that a log of calls leads to, and its moments.
+use Rattle.std.specs.Prelude.{ℕ, List, length}
+use Rattle.rad_outside.specs.MemoryDisk.{State, state_after, IsImageSince}
+use Rattle.rad_outside.specs.declared.call_log.CallLog.{CallLog}
+
+-- the state after all its calls
+abbrev pub state_of : CallLog → State
+state_of log = state_after log.first.items log.calls.items
+
+-- its moment is the number of its calls
+abbrev pub moment_of : CallLog → ℕ
+moment_of log = length log.calls.items
+
+-- the images that a crash since a moment might have left
+abbrev pub since_of : CallLog → ℕ → List ℕ → Type 0
+since_of log = IsImageSince log.first.items log.calls.items

@@ -1,0 +1,156 @@
+// A disk in memory, whose calls fail where a list says so. It keeps every call.
+ghost use Rattle.std.specs.Prelude.{◌≡◌, ◌≤◌, Some, length};
+ghost use Rattle.rad_outside.specs.Disks.{Only, ReadsAt};
+ghost use Rattle.rad_outside.specs.MemoryDisk.{IsImage};
+ghost use Rattle.rad_outside.specs.MemoryDiskLaws.{reads_is_image};
+ghost use Rattle.rad_outside.specs.MemoryDiskClock.{since_counts_now, since_only_now};
+ghost use Rattle.rad_outside.specs.CallLog.{moment_of, since_of, state_of};
+
+use crate::call_log::CallLog;
+use crate::failed::count_fault;
+use crate::{Disk, Failed};
+use std::alloc::Global;
+
+/// Bytes in memory as a disk.
+#[derive(Drop)]
+pub struct MemDisk {
+    log: CallLog,
+    fails: Vec<u64>,
+    faults: u64,
+}
+
+impl MemDisk {
+    /// A disk with these bytes, all of them synced. The calls that `fails` lists, counted from 0, fail.
+    pub fn new(alloc: Global, bytes: Vec<u8>, fails: Vec<u64>) -> Self
+        ensures reads { ⟦<MemDisk as Disk>⟧.reads_as result ≡ Some bytes.items }
+        ensures images { Only bytes.items (⟦<MemDisk as Disk>⟧.images result) }
+        ensures faults { ⟦<MemDisk as Disk>⟧.faults result ≡ 0 }
+    {
+        MemDisk {
+            log: CallLog::new(alloc, bytes),
+            fails,
+            faults: 0,
+        }
+    }
+
+    /// What it reads as.
+    pub fn bytes(&self) -> &[u8]
+        ensures { ⟦<MemDisk as Disk>⟧.reads_as self.now ≡ Some result.now }
+    {
+        self.log.bytes()
+    }
+
+    fn is_to_fail(&self) -> bool {
+        self.fails.contains(&self.log.len())
+    }
+}
+
+impl Disk for MemDisk {
+    ghost reads_as = { λ d. Some (state_of d.log).reads };
+
+    ghost images = { λ d. IsImage (state_of d.log) };
+
+    ghost faults = { λ d. d.faults };
+
+    ghost loan = { λ _. 0 };
+
+    ghost moment = { λ d. moment_of d.log };
+
+    ghost images_since = { λ d. since_of d.log };
+
+    ghost counts_now = { λ d t image low is. since_counts_now d.log.first.items d.log.calls.items t image low is };
+
+    ghost only_now = { λ d image is. since_only_now d.log.first.items d.log.calls.items image is };
+
+    ghost reads_image = { λ d. reads_is_image d.log.first.items d.log.calls.items };
+
+    fn size(&mut self) -> Result<u64, Failed> {
+        let failed = self.is_to_fail();
+        if self.log.look().is_err() || failed {
+            count_fault(&mut self.faults);
+            return Err(Failed);
+        }
+        Ok(self.log.bytes().len() as u64)
+    }
+
+    fn read_at(&mut self, place: u64, into: &mut [u8]) -> Result<usize, Failed> {
+        let failed = self.is_to_fail();
+        if self.log.look().is_err() || failed {
+            count_fault(&mut self.faults);
+            return Err(Failed);
+        }
+        Ok(copy_from(self.log.bytes(), place, into))
+    }
+
+    fn write_at(&mut self, place: u64, bytes: &[u8]) -> Result<(), Failed> {
+        let failed = self.is_to_fail();
+        if self.log.write(place, bytes, failed).is_err() {
+            count_fault(&mut self.faults);
+            return Err(Failed);
+        }
+        if failed {
+            count_fault(&mut self.faults);
+            return Err(Failed);
+        }
+        Ok(())
+    }
+
+    fn sync(&mut self) -> Result<(), Failed> {
+        let failed = self.is_to_fail();
+        if self.log.sync(failed).is_err() {
+            count_fault(&mut self.faults);
+            return Err(Failed);
+        }
+        if failed {
+            count_fault(&mut self.faults);
+            return Err(Failed);
+        }
+        Ok(())
+    }
+}
+
+// Copies what stands at a place.
+fn copy_from(bytes: &[u8], place: u64, into: &mut [u8]) -> usize
+    ensures bound { result ≤ length into.new }
+    ensures value { ReadsAt bytes.now place into.new result }
+{
+    let at = (place as usize).min(bytes.len());
+    let n = (bytes.len() - at).min(into.len());
+    into[..n].copy_from_slice(&bytes[at..at + n]);
+    n
+}
+
+#[cfg(test)]
+mod tests {
+    use super::*;
+    use std::test::Fail;
+
+    #[test]
+    fn calls_in_turn(rt: HostRuntime) -> Result<(), Fail> {
+        let alloc = rt.alloc();
+        let fails = vec![in alloc; 3u64, 4, 6, 8]?;
+        let mut disk = MemDisk::new(alloc, b"abcdef".to_vec(alloc)?, fails);
+        let mut into = [0u8; 4];
+
+        assert_eq!(rt; disk.write_at(4, b"xyz"), Ok(()));
+        assert_eq!(rt; disk.bytes(), b"abcdxyz".as_slice());
+        assert_eq!(rt; disk.sync(), Ok(()));
+        assert_eq!(rt; disk.read_at(5, &mut into), Ok(2));
+        assert_eq!(rt; into, *b"yz\0\0");
+
+        // The calls 3, 4, 6 and 8 fail. A write that fails has written the half of five bytes, rounded down.
+        assert_eq!(rt; disk.size(), Err(Failed));
+        assert_eq!(rt; disk.write_at(0, b"12345"), Err(Failed));
+        assert_eq!(rt; disk.size(), Ok(7));
+        assert_eq!(rt; disk.read_at(0, &mut into), Err(Failed));
+        assert_eq!(rt; disk.read_at(0, &mut into), Ok(4));
+        assert_eq!(rt; into, *b"12cd");
+        assert_eq!(rt; disk.sync(), Err(Failed));
+        assert_eq!(rt; disk.sync(), Ok(()));
+
+        assert_eq!(rt; disk.write_at(9, b"!"), Ok(()));
+        assert_eq!(rt; disk.bytes(), b"12cdxyz\0\0!".as_slice());
+        assert_eq!(rt; disk.read_at(11, &mut into), Ok(0));
+        Ok(())
+    }
+}

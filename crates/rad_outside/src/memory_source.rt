@@ -1,0 +1,98 @@
+// A source in memory, whose takes fail where a list says so.
+ghost use Rattle.std.specs.Prelude.{◌≡◌, ◌<◌, ◌≤◌, [], Some, length, drop, take};
+
+use crate::failed::count_fault;
+use crate::failing_calls::FailingCalls;
+use crate::{Failed, Source};
+
+/// Bytes in memory, given in pieces.
+#[derive(Drop)]
+pub struct MemSource {
+    bytes: Vec<u8>,
+    place: usize,
+    piece: usize,
+    fails: FailingCalls,
+    faults: u64,
+    ghost in_range: { place ≤ length bytes.items },
+    ghost some: { 0 < piece },
+}
+
+impl MemSource {
+    /// A source of these bytes, of which one take gives at most `piece`. The takes that `fails` lists,
+    /// counted from 0, fail.
+    pub fn new(bytes: Vec<u8>, piece: usize, fails: Vec<u64>) -> Self
+        requires { 0 < piece }
+        ensures left { ⟦<MemSource as Source>⟧.left result ≡ Some bytes.items }
+        ensures faults { ⟦<MemSource as Source>⟧.faults result ≡ 0 }
+    {
+        MemSource {
+            bytes,
+            place: 0,
+            piece,
+            fails: FailingCalls::new(fails),
+            faults: 0,
+        }
+    }
+
+    fn rest(&self) -> &[u8]
+        ensures { result.now ≡ drop self.now.place self.now.bytes.items }
+    {
+        &self.bytes[self.place..]
+    }
+}
+
+// Copies a front of what is left, at most `piece` bytes of it.
+fn copy_front(left: &[u8], piece: usize, into: &mut [u8]) -> usize
+    requires { 0 < piece }
+    ensures room { result ≤ length into.old }
+    ensures within { result ≤ length left.now }
+    ensures front { take result into.new ≡ take result left.now }
+    ensures end { result ≡ 0 → 0 < length into.new → left.now ≡ [] }
+{
+    let n = left.len().min(piece).min(into.len());
+    into[..n].copy_from_slice(&left[..n]);
+    n
+}
+
+impl Source for MemSource {
+    ghost left = { λ s. Some (drop s.place s.bytes.items) };
+
+    ghost faults = { λ s. s.faults };
+
+    ghost loan = { λ _. 0 };
+
+    fn take(&mut self, into: &mut [u8]) -> Result<usize, Failed> {
+        if self.fails.fails_next() {
+            self.fails.count_call();
+            count_fault(&mut self.faults);
+            return Err(Failed);
+        }
+        let n = copy_front(self.rest(), self.piece, into);
+        self.place += n;
+        self.fails.count_call();
+        Ok(n)
+    }
+}
+
+#[cfg(test)]
+mod tests {
+    use super::*;
+    use std::test::Fail;
+
+    #[test]
+    fn gives_pieces_and_fails_where_listed(rt: HostRuntime) -> Result<(), Fail> {
+        let alloc = rt.alloc();
+        let fails = vec![in alloc; 1u64, 4]?;
+        let mut source = MemSource::new(b"abcde".to_vec(alloc)?, 3, fails);
+        let mut into = [0u8; 4];
+        assert_eq!(rt; source.take(&mut into[..2]), Ok(2));
+        assert_eq!(rt; source.take(&mut into), Err(Failed));
+        assert_eq!(rt; into, *b"ab\0\0");
+        assert_eq!(rt; source.take(&mut into), Ok(3));
+        assert_eq!(rt; into, *b"cde\0");
+        assert_eq!(rt; source.take(&mut into), Ok(0));
+        assert_eq!(rt; source.take(&mut into), Err(Failed));
+        assert_eq!(rt; source.take(&mut into), Ok(0));
+        Ok(())
+    }
+}
