@@ -1,0 +1,10 @@
+pub mod Appending
+pub mod Entering
+pub mod Framing
+pub mod Fronts
+pub mod Gates
+pub mod Holding
+pub mod OneReading
+pub mod Records
+pub mod Scanning
+pub mod Walks
