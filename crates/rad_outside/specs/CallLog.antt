@@ -1,6 +1,7 @@
 -- The state that a log of calls leads to, and its moments.
 use Rattle.std.specs.Prelude.{ℕ, List, length}
-use Rattle.rad_outside.specs.MemoryDisk.{State, state_after, IsImageSince}
+use Rattle.rad_outside.specs.Disks.{Elapses}
+use Rattle.rad_outside.specs.MemoryDisk.{State, state_after, IsImage, IsImageSince}
 use Rattle.rad_outside.specs.declared.call_log.CallLog.{CallLog}
 
 -- the state after all its calls
@@ -14,3 +15,7 @@ moment_of log = length log.calls.items
 -- the images that a crash since a moment might have left
 abbrev pub since_of : CallLog → ℕ → List ℕ → Type 0
 since_of log = IsImageSince log.first.items log.calls.items
+
+-- the time that a call takes
+abbrev pub Passes : CallLog → CallLog → Type 0
+Passes old new = Elapses (moment_of old) (moment_of new) (since_of old) (since_of new) (IsImage (state_of new))

@@ -2,6 +2,9 @@ pub mod CallLog
 pub mod Causes
 pub mod Disks
 pub mod FailingCalls
+pub mod MemDisk
+pub mod MemSink
+pub mod MemSource
 pub mod MemoryDisk
 pub mod MemoryDiskClock
 pub mod MemoryDiskLaws

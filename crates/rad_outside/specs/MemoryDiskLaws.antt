@@ -2,9 +2,9 @@
 use Rattle.std.specs.Prelude.{◌≡◌, ℕ, ◌-◌, ◌/◌, ◌≤◌, List, [], ◌∷◌, ◌++◌, length, replicate, Bool, true, false, if◌then◌else◌, refl}
 use Rattle.std.proofs.Common.{arith, sym, subst, ◌∙◌, ap}
 use Rattle.std.proofs.lemmas.List.{length-take, length-replicate}
-use Rattle.rad_outside.specs.Disks.{Torn, Writes}
-use Rattle.rad_outside.specs.TornLaws.{torn_writes}
-use Rattle.rad_outside.specs.MemoryDisk.{State, new_state, after, after_all, state_after, overwritten, part, IsImage}
+use Rattle.rad_outside.specs.Disks.{Follows, Torn, Writes}
+use Rattle.rad_outside.specs.TornLaws.{torn_same, torn_writes}
+use Rattle.rad_outside.specs.MemoryDisk.{State, new_state, after, after_all, state_after, overwritten, part, written, IsImage}
 use Rattle.rad_outside.specs.declared.call.Call.{Call}
 use Rattle.rad_outside.specs.declared.call.Call.TheVariants.{Look, Write, Sync}
 
@@ -25,6 +25,22 @@ part_size false bytes = omega arith
 pub torn_overwritten : (place : ℕ) (failed : Bool) (bytes old : List ℕ) → Torn place (length bytes) old (overwritten place (part failed bytes) old)
 torn_overwritten place failed bytes old =
     torn_writes place (length bytes) (part failed bytes) old _ (part_size failed bytes) (writes_overwritten place (part failed bytes) old)
+
+-- a write, whole or by half, changes what is read as a write that was cut short
+pub torn_written : (place : ℕ) (failed : Bool) (bytes : List ℕ) (old new : State) → new ≡ written place bytes failed old
+    → Torn place (length bytes) old.reads new.reads
+torn_written place failed bytes old new e =
+    subst (λ (s : State). Torn place (length bytes) old.reads s.reads) (sym e) (torn_overwritten place failed bytes old.reads)
+
+-- each image after a write is one from before with such a change
+pub images_written : (place : ℕ) (failed : Bool) (bytes : List ℕ) (old new : State) → new ≡ written place bytes failed old
+    → Follows (Torn place (length bytes)) (IsImage old) (IsImage new)
+images_written place failed bytes old new e =
+    subst (λ (s : State). Follows (Torn place (length bytes)) (IsImage old) (IsImage s)) (sym e) (λ image is. is)
+
+-- a write that was not kept leaves each image
+pub images_same : (place n : ℕ) (s : State) → Follows (Torn place n) (IsImage s) (IsImage s)
+images_same place n s = λ image is. (image, is, torn_same place n image)
 
 -- a call keeps what is read among the images
 image_after : (s : State) (call : Call) → IsImage s s.reads → IsImage (after s call) (after s call).reads

@@ -17,9 +17,10 @@ pub(crate) struct CallLog {
 
 impl CallLog {
     ghost use Rattle.rad_outside.specs.MemoryDisk.{new_state, synced, written, IsImage};
-    ghost use Rattle.rad_outside.specs.Disks.{Elapses, Within};
-    ghost use Rattle.rad_outside.specs.CallLog.{moment_of, since_of, state_of};
+    ghost use Rattle.rad_outside.specs.Disks.{Follows, Torn, Within};
+    ghost use Rattle.rad_outside.specs.CallLog.{Passes, state_of};
 
+    // No calls on these bytes.
     pub(crate) fn new(alloc: Global, first: Vec<u8>) -> Self
         ensures { state_of result ≡ new_state first.items }
     {
@@ -31,11 +32,7 @@ impl CallLog {
         }
     }
 
-    // How many calls there were.
-    pub(crate) fn len(&self) -> u64 {
-        self.calls.len() as u64
-    }
-
+    // What the disk reads as.
     pub(crate) fn bytes(&self) -> &[u8]
         ensures { result.now ≡ (state_of self.now).reads }
     {
@@ -45,19 +42,23 @@ impl CallLog {
         }
     }
 
-    // A size or a read.
+    // Keeps a size or a read.
     pub(crate) fn look(&mut self) -> Result<(), AllocError>
         ensures same { state_of self.new ≡ state_of self.old }
-        ensures time { Elapses (moment_of self.old) (moment_of self.new) (since_of self.old) (since_of self.new) (IsImage (state_of self.new)) }
+        ensures time { Passes self.old self.new }
     {
         self.calls.push(Call::Look)?;
         Ok(())
     }
 
+    // Keeps a write, and does it: by half where it is to fail.
     pub(crate) fn write(&mut self, place: u64, from: &[u8], failed: bool) -> Result<(), AllocError>
         ensures ok { OnOk result (state_of self.new ≡ written place from.now failed (state_of self.old)) }
         ensures err { OnErr result (state_of self.new ≡ state_of self.old) }
-        ensures time { Elapses (moment_of self.old) (moment_of self.new) (since_of self.old) (since_of self.new) (IsImage (state_of self.new)) }
+        ensures torn { Torn place (length from.now) (state_of self.old).reads (state_of self.new).reads }
+        ensures images { Follows (Torn place (length from.now))
+            (IsImage (state_of self.old)) (IsImage (state_of self.new)) }
+        ensures time { Passes self.old self.new }
     {
         let copy = copy_of(self.alloc, from)?;
         let next = write_over(self.alloc, self.bytes(), place, part_of(from, failed))?;
@@ -66,11 +67,12 @@ impl CallLog {
         Ok(())
     }
 
+    // Keeps a sync.
     pub(crate) fn sync(&mut self, failed: bool) -> Result<(), AllocError>
         ensures ok { OnOk result (state_of self.new ≡ synced failed (state_of self.old)) }
         ensures within { Within (IsImage (state_of self.new)) (IsImage (state_of self.old)) }
         ensures err { OnErr result (state_of self.new ≡ state_of self.old) }
-        ensures time { Elapses (moment_of self.old) (moment_of self.new) (since_of self.old) (since_of self.new) (IsImage (state_of self.new)) }
+        ensures time { Passes self.old self.new }
     {
         self.calls.push(Call::Sync(failed))?;
         Ok(())

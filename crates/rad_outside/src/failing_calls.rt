@@ -1,5 +1,5 @@
 // Which calls of an object in memory are to fail, by their numbers from 0.
-ghost use Rattle.std.specs.Prelude.{◌≡◌, ◌+◌, ◌-◌, ◌^◌, ◌↔◌, min, IsTrue, Contains};
+ghost use Rattle.std.specs.Prelude.{◌≡◌, ◌↔◌, IsTrue};
 
 #[derive(Drop)]
 pub(crate) struct FailingCalls {
@@ -9,7 +9,7 @@ pub(crate) struct FailingCalls {
 }
 
 impl FailingCalls {
-    ghost use Rattle.rad_outside.specs.FailingCalls.{FailsNext};
+    ghost use Rattle.rad_outside.specs.FailingCalls.{FailsNext, one_later};
 
     pub(crate) fn new(listed: Vec<u64>) -> Self
         ensures { result ≡ record { listed = listed; had = 0 } }
@@ -26,7 +26,7 @@ impl FailingCalls {
 
     // Counts a call.
     pub(crate) fn count_call(&mut self)
-        ensures { self.new ≡ record self.old { had = min (self.old.had + 1) (2 ^ 64 - 1) } }
+        ensures { self.new ≡ one_later self.old }
     {
         self.had = self.had.saturating_add(1);
     }

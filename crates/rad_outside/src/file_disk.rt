@@ -8,8 +8,9 @@ use std::rt::Files;
 
 /// The file at a path as a disk.
 ///
-/// Where there is no file the disk is empty, and the first write makes one. A path that cannot be used, as
-/// that of a folder or of a file that may not be read and written, makes the first call fail.
+/// Where there is no file the disk is empty, and the first write makes one. A path that cannot be
+/// used, as that of a folder or of a file that may not be read and written, makes the first call
+/// fail.
 #[derive(Drop)]
 pub struct FileDisk<R: Files + Drop> {
     file: PathFile<R>,

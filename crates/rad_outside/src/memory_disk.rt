@@ -1,5 +1,6 @@
 // A disk in memory, whose calls fail where a list says so. It keeps every call.
-ghost use Rattle.std.specs.Prelude.{◌≡◌, ◌≤◌, Some, length};
+ghost use Rattle.std.specs.Prelude.{◌≡◌, ◌≤◌, ◌↔◌, Some, false, length, IsOk, OnOk, OnErr};
+ghost use Rattle.rad_outside.specs.Causes.{HasCause};
 ghost use Rattle.rad_outside.specs.Disks.{Only, ReadsAt};
 ghost use Rattle.rad_outside.specs.MemoryDisk.{IsImage};
 ghost use Rattle.rad_outside.specs.MemoryDiskLaws.{reads_is_image};
@@ -8,27 +9,33 @@ ghost use Rattle.rad_outside.specs.CallLog.{moment_of, since_of, state_of};
 
 use crate::call_log::CallLog;
 use crate::failed::count_fault;
+use crate::failing_calls::FailingCalls;
 use crate::{Disk, Failed};
-use std::alloc::Global;
+use std::alloc::{AllocError, Global};
 
 /// Bytes in memory as a disk.
 #[derive(Drop)]
 pub struct MemDisk {
     log: CallLog,
-    fails: Vec<u64>,
+    fails: FailingCalls,
     faults: u64,
 }
 
 impl MemDisk {
-    /// A disk with these bytes, all of them synced. The calls that `fails` lists, counted from 0, fail.
+    ghost use Rattle.rad_outside.specs.FailingCalls.{one_later};
+    ghost use Rattle.rad_outside.specs.MemDisk.{fails_of};
+
+    /// A disk with these bytes, all of them synced. The calls that `fails` lists, counted from 0,
+    /// fail. A write that fails so has written the first half of its bytes, rounded down.
     pub fn new(alloc: Global, bytes: Vec<u8>, fails: Vec<u64>) -> Self
         ensures reads { ⟦<MemDisk as Disk>⟧.reads_as result ≡ Some bytes.items }
         ensures images { Only bytes.items (⟦<MemDisk as Disk>⟧.images result) }
         ensures faults { ⟦<MemDisk as Disk>⟧.faults result ≡ 0 }
+        ensures fails { fails_of result ≡ record { listed = fails; had = 0 } }
     {
         MemDisk {
             log: CallLog::new(alloc, bytes),
-            fails,
+            fails: FailingCalls::new(fails),
             faults: 0,
         }
     }
@@ -40,8 +47,24 @@ impl MemDisk {
         self.log.bytes()
     }
 
-    fn is_to_fail(&self) -> bool {
-        self.fails.contains(&self.log.len())
+    // Counts a call that was kept. One that was not, or that is to fail, is a fault.
+    fn end_call(&mut self, kept: Result<(), AllocError>, to_fail: bool) -> Result<(), Failed>
+        ensures ok { IsOk result ↔ (IsOk kept × (to_fail ≡ false)) }
+        ensures counted { OnOk kept (self.new.fails ≡ one_later self.old.fails) }
+        ensures uncounted { OnErr kept (self.new.fails ≡ self.old.fails) }
+        ensures cause { HasCause self.old.faults self.new.faults result }
+        ensures log { self.new.log ≡ self.old.log }
+    {
+        if kept.is_err() {
+            count_fault(&mut self.faults);
+            return Err(Failed);
+        }
+        self.fails.count_call();
+        if to_fail {
+            count_fault(&mut self.faults);
+            return Err(Failed);
+        }
+        Ok(())
     }
 }
 
@@ -65,47 +88,29 @@ impl Disk for MemDisk {
     ghost reads_image = { λ d. reads_is_image d.log.first.items d.log.calls.items };
 
     fn size(&mut self) -> Result<u64, Failed> {
-        let failed = self.is_to_fail();
-        if self.log.look().is_err() || failed {
-            count_fault(&mut self.faults);
-            return Err(Failed);
-        }
-        Ok(self.log.bytes().len() as u64)
+        let to_fail = self.fails.fails_next();
+        let kept = self.log.look();
+        self.end_call(kept, to_fail)?;
+        Ok(self.bytes().len() as u64)
     }
 
     fn read_at(&mut self, place: u64, into: &mut [u8]) -> Result<usize, Failed> {
-        let failed = self.is_to_fail();
-        if self.log.look().is_err() || failed {
-            count_fault(&mut self.faults);
-            return Err(Failed);
-        }
-        Ok(copy_from(self.log.bytes(), place, into))
+        let to_fail = self.fails.fails_next();
+        let kept = self.log.look();
+        self.end_call(kept, to_fail)?;
+        Ok(copy_from(self.bytes(), place, into))
     }
 
     fn write_at(&mut self, place: u64, bytes: &[u8]) -> Result<(), Failed> {
-        let failed = self.is_to_fail();
-        if self.log.write(place, bytes, failed).is_err() {
-            count_fault(&mut self.faults);
-            return Err(Failed);
-        }
-        if failed {
-            count_fault(&mut self.faults);
-            return Err(Failed);
-        }
-        Ok(())
+        let to_fail = self.fails.fails_next();
+        let kept = self.log.write(place, bytes, to_fail);
+        self.end_call(kept, to_fail)
     }
 
     fn sync(&mut self) -> Result<(), Failed> {
-        let failed = self.is_to_fail();
-        if self.log.sync(failed).is_err() {
-            count_fault(&mut self.faults);
-            return Err(Failed);
-        }
-        if failed {
-            count_fault(&mut self.faults);
-            return Err(Failed);
-        }
-        Ok(())
+        let to_fail = self.fails.fails_next();
+        let kept = self.log.sync(to_fail);
+        self.end_call(kept, to_fail)
     }
 }
 
@@ -138,7 +143,7 @@ mod tests {
         assert_eq!(rt; disk.read_at(5, &mut into), Ok(2));
         assert_eq!(rt; into, *b"yz\0\0");
 
-        // The calls 3, 4, 6 and 8 fail. A write that fails has written the half of five bytes, rounded down.
+        // The calls 3, 4, 6 and 8 fail. The write has then written two bytes of five.
         assert_eq!(rt; disk.size(), Err(Failed));
         assert_eq!(rt; disk.write_at(0, b"12345"), Err(Failed));
         assert_eq!(rt; disk.size(), Ok(7));

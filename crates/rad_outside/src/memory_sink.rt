@@ -1,5 +1,8 @@
 // A sink in memory, whose gives fail where a list says so.
-ghost use Rattle.std.specs.Prelude.{◌≡◌, [], Some};
+ghost use Rattle.std.specs.Prelude.{◌≡◌, ◌<◌, ◌≤◌, [], Some, length, IfOk};
+ghost use Rattle.std.specs.Io.KnownBytes.{WriteAppends};
+ghost use Rattle.rad_outside.specs.Causes.{HasCause};
+ghost use Rattle.rad_outside.specs.FailingCalls.{HadCall};
 
 use crate::failed::count_fault;
 use crate::failing_calls::FailingCalls;
@@ -15,10 +18,13 @@ pub struct MemSink {
 }
 
 impl MemSink {
+    ghost use Rattle.rad_outside.specs.MemSink.{fails_of};
+
     /// A sink that was given nothing. The gives that `fails` lists, counted from 0, fail.
     pub fn new(alloc: Global, fails: Vec<u64>) -> Self
         ensures given { ⟦<MemSink as Sink>⟧.given result ≡ Some [] }
         ensures faults { ⟦<MemSink as Sink>⟧.faults result ≡ 0 }
+        ensures fails { fails_of result ≡ record { listed = fails; had = 0 } }
     {
         MemSink {
             bytes: Vec::new(alloc),
@@ -36,13 +42,24 @@ impl MemSink {
 }
 
 impl Sink for MemSink {
-    ghost given = { λ s. Some s.bytes.items };
+    ghost use Rattle.rad_outside.specs.MemSink.{fails_of, given_of};
+
+    ghost given = { given_of };
 
     ghost faults = { λ s. s.faults };
 
     ghost loan = { λ _. 0 };
 
-    fn give(&mut self, from: &[u8]) -> Result<usize, Failed> {
+    fn give(&mut self, from: &[u8]) -> Result<usize, Failed>
+        ensures bound { IfOk result (λ n. n ≤ length from.now) }
+        ensures some { 0 < length from.now → IfOk result (λ n. 0 < n) }
+        ensures bytes { WriteAppends (given_of self.old) (given_of self.new) result from.now }
+        ensures cause { HasCause self.old.faults self.new.faults result }
+
+        // It takes the whole piece.
+        ensures whole { IfOk result (λ n. n ≡ length from.now) }
+        ensures calls { HadCall (fails_of self.old) (fails_of self.new) result }
+    {
         if self.fails.fails_next() {
             self.fails.count_call();
             count_fault(&mut self.faults);

@@ -1,5 +1,9 @@
 // A source in memory, whose takes fail where a list says so.
-ghost use Rattle.std.specs.Prelude.{◌≡◌, ◌<◌, ◌≤◌, [], Some, length, drop, take};
+ghost use Rattle.std.specs.Prelude.{◌≡◌, ◌<◌, ◌≤◌, ◌↔◌, [], Some, IsErr, length, drop, take};
+ghost use Rattle.std.specs.Io.{ReadsAtMost};
+ghost use Rattle.std.specs.Io.KnownBytes.{ReadConsumes};
+ghost use Rattle.rad_outside.specs.Causes.{HasCause};
+ghost use Rattle.rad_outside.specs.FailingCalls.{FailsNext, one_later};
 
 use crate::failed::count_fault;
 use crate::failing_calls::FailingCalls;
@@ -18,12 +22,15 @@ pub struct MemSource {
 }
 
 impl MemSource {
-    /// A source of these bytes, of which one take gives at most `piece`. The takes that `fails` lists,
-    /// counted from 0, fail.
+    ghost use Rattle.rad_outside.specs.MemSource.{fails_of};
+
+    /// A source of these bytes, of which one take gives at most `piece`. The takes that `fails`
+    /// lists, counted from 0, fail.
     pub fn new(bytes: Vec<u8>, piece: usize, fails: Vec<u64>) -> Self
         requires { 0 < piece }
         ensures left { ⟦<MemSource as Source>⟧.left result ≡ Some bytes.items }
         ensures faults { ⟦<MemSource as Source>⟧.faults result ≡ 0 }
+        ensures fails { fails_of result ≡ record { listed = fails; had = 0 } }
     {
         MemSource {
             bytes,
@@ -55,13 +62,23 @@ fn copy_front(left: &[u8], piece: usize, into: &mut [u8]) -> usize
 }
 
 impl Source for MemSource {
-    ghost left = { λ s. Some (drop s.place s.bytes.items) };
+    ghost use Rattle.rad_outside.specs.MemSource.{fails_of, left_of};
+
+    ghost left = { left_of };
 
     ghost faults = { λ s. s.faults };
 
     ghost loan = { λ _. 0 };
 
-    fn take(&mut self, into: &mut [u8]) -> Result<usize, Failed> {
+    fn take(&mut self, into: &mut [u8]) -> Result<usize, Failed>
+        ensures bound { ReadsAtMost result into.new }
+        ensures bytes { ReadConsumes (left_of self.old) (left_of self.new) result into.new }
+        ensures cause { HasCause self.old.faults self.new.faults result }
+
+        // The calls that are listed fail, and no others.
+        ensures listed { IsErr result ↔ FailsNext (fails_of self.old) }
+        ensures counted { fails_of self.new ≡ one_later (fails_of self.old) }
+    {
         if self.fails.fails_next() {
             self.fails.count_call();
             count_fault(&mut self.faults);

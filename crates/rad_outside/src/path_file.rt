@@ -45,15 +45,13 @@ impl<R: Files + Drop> PathFile<R> {
     }
 
     pub(crate) fn write_at(&mut self, place: u64, bytes: &[u8]) -> io::Result<()> {
-        match self.found_or_made()? {
-            Some(file) if bytes.is_empty() => lengthen(file, place),
-            Some(file) => {
-                file.seek(SeekFrom::Start(place))?;
-                file.write_all(bytes)?;
-                file.flush()
-            }
-            None => Err(io::Error::from(io::ErrorKind::NotFound)),
+        let file = self.found_or_made()?;
+        if bytes.is_empty() {
+            return lengthen(file, place);
         }
+        file.seek(SeekFrom::Start(place))?;
+        file.write_all(bytes)?;
+        file.flush()
     }
 
     // The first sync of a file makes its name last too.
@@ -77,16 +75,12 @@ impl<R: Files + Drop> PathFile<R> {
         Ok(self.file.as_mut())
     }
 
-    fn found_or_made(&mut self) -> io::Result<Option<&mut R::File>> {
-        if self.file.is_none() {
-            let made = OpenOptions::new()
-                .read(true)
-                .write(true)
-                .create(true)
-                .open(&self.rt, self.path.as_str())?;
-            self.file = Some(made);
-        }
-        Ok(self.file.as_mut())
+    fn found_or_made(&mut self) -> io::Result<&mut R::File> {
+        let file = match self.file.take() {
+            Some(file) => file,
+            None => open_or_make(&self.rt, self.path.as_str())?,
+        };
+        Ok(self.file.insert(file))
     }
 }
 
@@ -96,6 +90,14 @@ fn open_if_there<R: Files + Drop>(rt: &R, path: &str) -> io::Result<Option<R::Fi
         Err(error) if error.kind() == io::ErrorKind::NotFound => Ok(None),
         Err(error) => Err(error),
     }
+}
+
+fn open_or_make<R: Files + Drop>(rt: &R, path: &str) -> io::Result<R::File> {
+    OpenOptions::new()
+        .read(true)
+        .write(true)
+        .create(true)
+        .open(rt, path)
 }
 
 // Fills the buffer from where the file stands, with fewer bytes only at the end.
