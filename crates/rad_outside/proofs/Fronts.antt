@@ -13,5 +13,6 @@ front_and_rest place n bytes into front =
     ∙ ap (λ (xs : List ℕ). take n into ++ xs) (drop-drop n place bytes)
 
 -- where nothing stands from a place on, nothing stands behind it
-pub nothing_behind : (place n : ℕ) (bytes : List ℕ) → drop place bytes ≡ [] → drop (place + n) bytes ≡ []
+pub nothing_behind : (place n : ℕ) (bytes : List ℕ)
+    → drop place bytes ≡ [] → drop (place + n) bytes ≡ []
 nothing_behind place n bytes none = sym (drop-drop n place bytes) ∙ ap (drop n) none ∙ drop-nil n

@@ -18,4 +18,5 @@ since_of log = IsImageSince log.first.items log.calls.items
 
 -- the time that a call takes
 abbrev pub Passes : CallLog → CallLog → Type 0
-Passes old new = Elapses (moment_of old) (moment_of new) (since_of old) (since_of new) (IsImage (state_of new))
+Passes old new =
+    Elapses (moment_of old) (moment_of new) (since_of old) (since_of new) (IsImage (state_of new))

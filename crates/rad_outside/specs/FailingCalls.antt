@@ -10,7 +10,8 @@ FailsNext calls = Contains calls.listed.items calls.had
 abbrev pub one_later : FailingCalls → FailingCalls
 one_later calls = record calls { had = min (calls.had + 1) (2 ^ 64 - 1) }
 
--- A listed call fails, and counts as a call. Another fails only for want of memory, and then it counts as none.
+-- A listed call fails, and counts as a call. Another fails only for want of memory, and then counts
+-- as none.
 pub record HadCall {T E : Type 0} (old new : FailingCalls) (result : Result T E) : Type 0 where
   pub listed : FailsNext old → IsErr result × (new ≡ one_later old)
   pub done : OnOk result (new ≡ one_later old)

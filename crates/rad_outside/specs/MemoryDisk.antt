@@ -1,5 +1,6 @@
 -- A disk in memory, by the calls that it has had.
-use Rattle.std.specs.Prelude.{◌≡◌, ℕ, ◌+◌, ◌-◌, ◌/◌, List, [], ◌∷◌, ◌++◌, length, take, drop, replicate, Bool, true, false, ◌≤◌, Option, None, Some, Vec}
+use Rattle.std.specs.Prelude.{◌≡◌, ℕ, ◌+◌, ◌-◌, ◌/◌, ◌≤◌, List, [], ◌∷◌, ◌++◌, length, take, drop}
+use Rattle.std.specs.Prelude.{replicate, Bool, true, false, Option, None, Some, Vec}
 use Rattle.std.specs.declared.alloc.Global.{Global}
 use Rattle.rad_outside.specs.Disks.{Torn}
 use Rattle.rad_outside.specs.declared.call.Call.{Call}
@@ -7,14 +8,16 @@ use Rattle.rad_outside.specs.declared.call.Call.TheVariants.{Look, Write, Sync}
 
 -- these bytes over what is there, and zeros between the old end and a place behind it
 abbrev pub overwritten : ℕ → List ℕ → List ℕ → List ℕ
-overwritten place bytes old = take place old ++ replicate (place - length old) 0 ++ bytes ++ drop (place + length bytes) old
+overwritten place bytes old =
+    take place old ++ replicate (place - length old) 0 ++ bytes ++ drop (place + length bytes) old
 
 -- what a write that fails has written: the first half
 abbrev pub part : Bool → List ℕ → List ℕ
 part true bytes = take (length bytes / 2) bytes
 part false bytes = bytes
 
--- what the disk reads as, what it read as at the last sync that succeeded, and the ranges written since, the newest first
+-- What the disk reads as, what it read as at the last sync that succeeded, and the ranges (place,
+-- length) written since, the newest first.
 pub record State : Type 0 where
   pub reads : List ℕ
   pub synced : List ℕ
@@ -55,13 +58,14 @@ state_after first calls = after_all (new_state first) calls
 -- an image after torn writes of these ranges
 abbrev pub IsTorn : List ℕ → List (ℕ × ℕ) → List ℕ → Type 0
 IsTorn synced [] image = image ≡ synced
-IsTorn synced (range ∷ ranges) image = (before : List ℕ) × IsTorn synced ranges before × Torn range.0 range.1 before image
+IsTorn synced (range ∷ ranges) image =
+    (before : List ℕ) × IsTorn synced ranges before × Torn range.0 range.1 before image
 
 -- an image that a crash may leave
 abbrev pub IsImage : State → List ℕ → Type 0
 IsImage s image = IsTorn s.synced s.ranges image
 
--- an image that a crash since the moment t might have left: after some of the calls, t of them or more
+-- an image that a crash since the moment t might have left: after some of the calls, t or more
 pub record IsImageSince (first : List ℕ) (calls : List Call) (t : ℕ) (image : List ℕ) : Type 0 where
   pub count : ℕ
   pub since : t ≤ count

@@ -53,9 +53,11 @@ impl CallLog {
 
     // Keeps a write, and does it: by half where it is to fail.
     pub(crate) fn write(&mut self, place: u64, from: &[u8], failed: bool) -> Result<(), AllocError>
-        ensures ok { OnOk result (state_of self.new ≡ written place from.now failed (state_of self.old)) }
+        ensures ok { OnOk result
+            (state_of self.new ≡ written place from.now failed (state_of self.old)) }
         ensures err { OnErr result (state_of self.new ≡ state_of self.old) }
-        ensures torn { Torn place (length from.now) (state_of self.old).reads (state_of self.new).reads }
+        ensures torn { Torn place (length from.now)
+            (state_of self.old).reads (state_of self.new).reads }
         ensures images { Follows (Torn place (length from.now))
             (IsImage (state_of self.old)) (IsImage (state_of self.new)) }
         ensures time { Passes self.old self.new }

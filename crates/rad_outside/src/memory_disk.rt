@@ -81,7 +81,8 @@ impl Disk for MemDisk {
 
     ghost images_since = { λ d. since_of d.log };
 
-    ghost counts_now = { λ d t image low is. since_counts_now d.log.first.items d.log.calls.items t image low is };
+    ghost counts_now = { λ d t image low is.
+        since_counts_now d.log.first.items d.log.calls.items t image low is };
 
     ghost only_now = { λ d image is. since_only_now d.log.first.items d.log.calls.items image is };
 

@@ -7,11 +7,17 @@ use Rattle.rad_outside.proofs.call_log.CallLog.look.Goals as goal
 
 pub invariant_of-self : goal.invariant_of-self
 invariant_of-self c =
-    let same = looked c.args.self.now.first.items c.args.self.now.calls.items c.push.new.self.items _ c.push.ensures.items in
-    record { replayed = c.args.self.now.replayed ∙ sym (ap (λ (s : State). s.reads) same) }
+    let old = c.args.self.now in
+    let same = looked old.first.items old.calls.items c.push.new.self.items _ c.push.ensures.items in
+    record { replayed = old.replayed ∙ sym (ap (λ (s : State). s.reads) same) }
 
 pub returns-clause-same : goal.returns-clause-same
-returns-clause-same c = state_pushed c.args.self.now.first.items c.args.self.now.calls.items c.push.new.self.items Look c.in_ok-push.ensures.items
+returns-clause-same c =
+    let old = c.args.self.now in
+    state_pushed old.first.items old.calls.items c.push.new.self.items Look c.in_ok-push.ensures.items
 
 pub returns-clause-time : goal.returns-clause-time
-returns-clause-time c = elapses_kept c.args.self.now.first.items c.args.self.now.calls.items c.push.new.self.items Look true c.in_ok-push.ensures.items
+returns-clause-time c =
+    let old = c.args.self.now in
+    let items = c.push.new.self.items in
+    elapses_kept old.first.items old.calls.items items Look true c.in_ok-push.ensures.items
