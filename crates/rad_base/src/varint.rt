@@ -114,7 +114,13 @@ mod tests {
     use std::test::Fail;
 
     // Bytes that an independent program made, and what they are read as.
-    const READ: [(&[u8], Varint); 76] = [
+    const READ: [(&[u8], Varint); 79] = [
+        (b"\x40\x40", Varint::Value(64, 2)),
+        (b"\x80\x00\x40\x00", Varint::Value(16384, 4)),
+        (
+            b"\xc0\x00\x00\x00\x40\x00\x00\x00",
+            Varint::Value(1073741824, 8),
+        ),
         (b"\x25", Varint::Value(37, 1)),
         (b"\x7b\xbd", Varint::Value(15293, 2)),
         (b"\x9d\x7f\x3e\x7d", Varint::Value(494878333, 4)),
@@ -329,18 +335,6 @@ mod tests {
                 assert_eq!(rt; out.get(..size), bytes.get(..size));
             }
         }
-        Ok(())
-    }
-
-    #[test]
-    fn the_least_numbers_of_each_size_are_written(rt: HostRuntime) -> Result<(), Fail> {
-        let mut out = [0; 8];
-        assert_eq!(rt; write_varint(64, &mut out), 2);
-        assert_eq!(rt; out.get(..2), Some(b"\x40\x40".as_slice()));
-        assert_eq!(rt; write_varint(16384, &mut out), 4);
-        assert_eq!(rt; out.get(..4), Some(b"\x80\x00\x40\x00".as_slice()));
-        assert_eq!(rt; write_varint(1073741824, &mut out), 8);
-        assert_eq!(rt; out, *b"\xc0\x00\x00\x00\x40\x00\x00\x00");
         Ok(())
     }
 }
