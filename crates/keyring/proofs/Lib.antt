@@ -1,0 +1,10 @@
+pub mod AcceptOrder
+pub mod Conditions
+pub mod Contained
+pub mod DirectTexts
+pub mod Files
+pub mod LineFronts
+pub mod LinesOf
+pub mod Messages
+pub mod Names
+pub mod Saying

@@ -1,0 +1,6 @@
+pub mod Accepts
+pub mod Contents
+pub mod Keys
+pub mod Lines
+pub mod Readers
+pub mod Texts
