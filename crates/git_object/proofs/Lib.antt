@@ -2,7 +2,11 @@ pub mod Commits
 pub mod EntryTexts
 pub mod Items
 pub mod Lines
+pub mod Linked
 pub mod NameFronts
 pub mod ReadBack
+pub mod SpellingLaws
 pub mod Steps
+pub mod Tags
 pub mod TreeTexts
+pub mod Written

@@ -44,15 +44,18 @@ pub record IsReadTo (bytes rest : List ℕ) (last : Option (List ℕ)) : Type 0 
   pub end : last_from None entries ≡ last
   pub text : bytes ≡ tree_text entries ++ rest
 
-each_more : (es : List Entry) (e : Entry) → AllByRecursion IsEntry es → IsEntry e → AllByRecursion IsEntry (es ++ e ∷ [])
+-- one more entry
+pub each_more : (es : List Entry) (e : Entry) → AllByRecursion IsEntry es → IsEntry e → AllByRecursion IsEntry (es ++ e ∷ [])
 each_more [] e each is = (is, tt)
 each_more (f ∷ es) e each is = (each.0, each_more es e each.1 is)
 
-rising_more : (before : Option (List ℕ)) (es : List Entry) (e : Entry) → IsRisingFrom before es → IsBelow (last_from before es) (key_of e) → IsRisingFrom before (es ++ e ∷ [])
+-- one more entry, above those before it
+pub rising_more : (before : Option (List ℕ)) (es : List Entry) (e : Entry) → IsRisingFrom before es → IsBelow (last_from before es) (key_of e) → IsRisingFrom before (es ++ e ∷ [])
 rising_more before [] e rising below = (below, tt)
 rising_more before (f ∷ es) e rising below = (rising.0, rising_more (Some (key_of f)) es e rising.1 below)
 
-last_more : (before : Option (List ℕ)) (es : List Entry) (e : Entry) → last_from before (es ++ e ∷ []) ≡ Some (key_of e)
+-- whose key is the last
+pub last_more : (before : Option (List ℕ)) (es : List Entry) (e : Entry) → last_from before (es ++ e ∷ []) ≡ Some (key_of e)
 last_more before [] e = refl
 last_more before (f ∷ es) e = last_more (Some (key_of f)) es e
 

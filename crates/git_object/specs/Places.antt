@@ -3,7 +3,9 @@ use Rattle.std.specs.Prelude.{◌≡◌, ℕ, ◌<◌, ◌≤◌, ◌⊎◌, Lis
 use Rattle.std.specs.List.{AllByRecursion}
 use Rattle.rad_base.specs.Sizes.{IsOid}
 use Rattle.rad_base.specs.declared.names.Oid.{Oid}
-use Rattle.git_object.specs.Grammar.{BeginsWith, Entry, IsBelow, IsEntry, IsTree, entry_text, key_of, oid_line, parents_text}
+use Rattle.git_object.specs.Grammar.{BeginsWith, Entry, IsBelow, IsEntry, IsTree, entry_text, key_of, oid_line, parents_text, type_line}
+use Rattle.git_object.specs.declared.kind.Kind.{Kind}
+use Rattle.git_object.specs.declared.kind.Kind.TheVariants.{Blob, Tree, Commit, Tag}
 
 -- no entry that may stand behind a key stands at the front
 abbrev pub HasNoEntryAbove : Option (List ℕ) → List ℕ → Type 0
@@ -37,6 +39,39 @@ pub record BreaksBehindTree (bytes : List ℕ) (place : ℕ) : Type 0 where
   pub no_parent : HasNoLine (codes "parent ") (drop place bytes)
   pub no_rest : BeginsWith (codes "author ") (drop place bytes) → ⊥
 
--- no line of a tree stands at the front, or the break is behind it
+-- no line of a tree stands at the front, or the break is behind one
 abbrev pub BreaksCommit : List ℕ → ℕ → Type 0
 BreaksCommit bytes place = ((place ≡ 0) × HasNoLine (codes "tree ") bytes) ⊎ BreaksBehindTree bytes place
+
+-- no line of a kind stands at the front
+abbrev pub HasNoType : List ℕ → Type 0
+HasNoType bytes = (kind : Kind) (rest : List ℕ) → bytes ≡ type_line kind ++ rest → ⊥
+
+-- the line of the object stands before the place, and none of a kind at it
+pub record BreaksAtType (bytes : List ℕ) (place : ℕ) : Type 0 where
+  pub object : Oid
+  pub object_is : IsOid object
+  pub inside : place ≤ length bytes
+  pub before : take place bytes ≡ oid_line (codes "object ") object
+  pub no_type : HasNoType (drop place bytes)
+
+-- the lines of the object and of its kind stand before the place, and no `tag ` at it
+pub record BreaksBehindType (bytes : List ℕ) (place : ℕ) : Type 0 where
+  pub object : Oid
+  pub kind : Kind
+  pub object_is : IsOid object
+  pub inside : place ≤ length bytes
+  pub before : take place bytes ≡ oid_line (codes "object ") object ++ type_line kind
+  pub no_rest : BeginsWith (codes "tag ") (drop place bytes) → ⊥
+
+-- no line of an object stands at the front, or the break is behind one, or behind one of a kind
+abbrev pub BreaksTag : List ℕ → ℕ → Type 0
+BreaksTag bytes place =
+    ((place ≡ 0) × HasNoLine (codes "object ") bytes) ⊎ BreaksAtType bytes place ⊎ BreaksBehindType bytes place
+
+-- the place at which bytes leave the grammar of a kind; those of a blob leave it nowhere
+abbrev pub Breaks : Kind → List ℕ → ℕ → Type 0
+Breaks Blob bytes place = ⊥
+Breaks Tree bytes place = BreaksTree bytes place
+Breaks Commit bytes place = BreaksCommit bytes place
+Breaks Tag bytes place = BreaksTag bytes place

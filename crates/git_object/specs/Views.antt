@@ -1,16 +1,22 @@
 -- What the values of the program stand for.
 use Rattle.std.specs.Prelude.{◌≡◌, ◌++◌, ℕ, List, Option, None, Some}
 use Rattle.rad_base.specs.declared.names.Oid.{Oid}
-use Rattle.git_object.specs.Grammar.{Commit, Entry, IsBelow, IsEntry, entry_text, key_of}
+use Rattle.git_object.specs.Grammar.{Commit, Entry, IsBelow, IsEntry, Tag, entry_text, key_of}
 use Rattle.git_object.specs.Reading.{entries_in, parents_in}
 use Rattle.git_object.specs.declared.entry.TreeEntry.{TreeEntry}
 use Rattle.git_object.specs.declared.tree.TreeEntries.{TreeEntries}
 use Rattle.git_object.specs.declared.commit.Parents.{Parents}
 use Rattle.git_object.specs.declared.commit.CommitParts.{CommitParts}
+use Rattle.git_object.specs.declared.named_entry.NamedEntry.{NamedEntry}
+use Rattle.git_object.specs.declared.tag.TagParts.{TagParts}
 
 -- an entry, without where its name lies
 abbrev pub entry_of : TreeEntry → Entry
 entry_of entry = record { mode = entry.mode; name = entry.name.now; oid = entry.oid }
+
+-- an entry that owns its name
+abbrev pub entry_named : NamedEntry → Entry
+entry_named entry = record { mode = entry.mode; name = entry.name; oid = entry.oid }
 
 -- the entries that an iterator has left
 abbrev pub entries_of : TreeEntries → List Entry
@@ -23,6 +29,10 @@ parents_of parents = parents_in parents.rest.now
 -- the commit of some parts
 abbrev pub commit_of : CommitParts → Commit
 commit_of parts = record { tree = parts.tree; parents = parents_of parts.parents; rest = parts.rest.now }
+
+-- the tag of some parts
+abbrev pub tag_of : TagParts → Tag
+tag_of parts = record { object = parts.object; kind = parts.kind; rest = parts.rest.now }
 
 -- the key of the entry before, where there is one
 abbrev pub last_key : Option TreeEntry → Option (List ℕ)

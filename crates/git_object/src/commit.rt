@@ -28,7 +28,8 @@ pub struct CommitParts<'a> {
 
 // The line of a word and a name at the front, and what stands behind it.
 pub(crate) fn oid_line_at<'a>(bytes: &'a [u8], word: &[u8]) -> Option<(Oid, &'a [u8])>
-    ensures found { IfSome result (λ x. IsOid x.0 × (bytes.now ≡ oid_line word.now x.0 ++ x.1.now)) }
+    ensures found { IfSome result (λ x. IsOid x.0
+        × (bytes.now ≡ oid_line word.now x.0 ++ x.1.now)) }
     ensures none { IfNone result (HasNoLine word.now bytes.now) }
 {
     let digits = after(bytes, word)?;

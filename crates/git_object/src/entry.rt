@@ -2,7 +2,8 @@
 ghost use Rattle.std.specs.Prelude.{◌≡◌, ◌∷◌, ◌++◌, ℕ, List, codes, IfSome, IfNone};
 ghost use Rattle.std.specs.Ordering.{nat_cmp};
 ghost use Rattle.std.specs.Cmp.Lexicographic.{slice_cmp};
-ghost use Rattle.git_object.specs.Grammar.{Entry, IsEntry, IsName, entry_text, key_of, mode_text, slash_of};
+ghost use Rattle.git_object.specs.Grammar.{Entry, IsEntry, IsName, entry_text};
+ghost use Rattle.git_object.specs.Grammar.{key_of, mode_text, slash_of};
 ghost use Rattle.git_object.specs.Views.{entry_of};
 
 use crate::Mode;
@@ -23,7 +24,8 @@ pub struct TreeEntry<'a> {
 // The mode at the front, with the space behind it.
 fn mode_at(bytes: &[u8]) -> Option<(Mode, &[u8])>
     ensures found { IfSome result (λ x. bytes.now ≡ mode_text x.0 ++ codes " " ++ x.1.now) }
-    ensures none { IfNone result ((mode : Mode) (rest : List ℕ) → bytes.now ≡ mode_text mode ++ codes " " ++ rest → ⊥) }
+    ensures none { IfNone result ((mode : Mode) (rest : List ℕ)
+        → bytes.now ≡ mode_text mode ++ codes " " ++ rest → ⊥) }
 {
     if let Some(rest) = after(bytes, b"100644 ") {
         return Some((Mode::File, rest));
@@ -49,7 +51,8 @@ fn mode_at(bytes: &[u8]) -> Option<(Mode, &[u8])>
 // The name at the front, with the NUL behind it.
 fn name_at(bytes: &[u8]) -> Option<(&[u8], &[u8])>
     ensures found { IfSome result (λ x. IsName x.0.now × (bytes.now ≡ x.0.now ++ 0 ∷ x.1.now)) }
-    ensures none { IfNone result ((name rest : List ℕ) → IsName name → bytes.now ≡ name ++ 0 ∷ rest → ⊥) }
+    ensures none { IfNone result ((name rest : List ℕ)
+        → IsName name → bytes.now ≡ name ++ 0 ∷ rest → ⊥) }
 {
     for (at, byte) in bytes.iter().enumerate() {
         if *byte == 0 {
@@ -67,8 +70,10 @@ fn name_at(bytes: &[u8]) -> Option<(&[u8], &[u8])>
 
 // The entry at the front, and what stands behind it.
 pub(crate) fn entry_at(bytes: &[u8]) -> Option<(TreeEntry<'_>, &[u8])>
-    ensures found { IfSome result (λ x. IsEntry (entry_of x.0) × (bytes.now ≡ entry_text (entry_of x.0) ++ x.1.now)) }
-    ensures none { IfNone result ((entry : Entry) (rest : List ℕ) → IsEntry entry → bytes.now ≡ entry_text entry ++ rest → ⊥) }
+    ensures found { IfSome result (λ x. IsEntry (entry_of x.0)
+        × (bytes.now ≡ entry_text (entry_of x.0) ++ x.1.now)) }
+    ensures none { IfNone result ((entry : Entry) (rest : List ℕ)
+        → IsEntry entry → bytes.now ≡ entry_text entry ++ rest → ⊥) }
 {
     let (mode, rest) = mode_at(bytes)?;
     let (name, rest) = name_at(rest)?;

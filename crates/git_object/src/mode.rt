@@ -1,4 +1,5 @@
 // Modes of the entries of a tree.
+ghost use Rattle.std.specs.Prelude.{◌≡◌};
 
 /// What an entry of a tree is.
 #[derive(Clone, Copy, Debug, PartialEq, Eq)]
@@ -15,4 +16,22 @@ pub enum Mode {
     Directory,
     /// A commit of another repository, 160000.
     Gitlink,
+}
+
+impl Mode {
+    ghost use Rattle.git_object.specs.Grammar.{mode_text};
+
+    /// The text of the mode, as `100644`.
+    pub fn text(self) -> &'static [u8]
+        ensures { result.now ≡ mode_text self }
+    {
+        match self {
+            Mode::File => b"100644",
+            Mode::Executable => b"100755",
+            Mode::GroupFile => b"100664",
+            Mode::Symlink => b"120000",
+            Mode::Directory => b"40000",
+            Mode::Gitlink => b"160000",
+        }
+    }
 }

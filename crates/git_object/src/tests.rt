@@ -1,11 +1,14 @@
 // Tests against tables that an independent program made, and names that Git gave.
-use crate::{Kind, name_of, read_commit, read_tree};
-use rad_base::parse_oid;
+use crate::{
+    Kind, LinkTo, LinksFault, Mode, NamedEntry, TreeFault, links, name_of, read_commit, read_tag,
+    read_tree, write_commit, write_tag, write_tree,
+};
+use rad_base::{Bytes, Oid, parse_oid};
 use std::alloc::{AllocError, Global};
 use std::test::Fail;
 
-// Contents with the place at which they leave the grammar, if they do. `%` stands for the 20 bytes of
-// NAME, `#` for their digits, and `~` for 300 times the letter a.
+// Contents with the place at which they leave the grammar, if they do. `%` stands for the 20 bytes
+// of NAME, `#` for their digits, and `~` for 300 times the letter a.
 const TREES: [(&[u8], Option<usize>); 25] = [
     (b"", None),
     (b"100644 a\0%", None),
@@ -69,6 +72,24 @@ const COMMITS: [(&[u8], Option<usize>); 17] = [
     (b"tree #\nparent #\n\nauthor x", Some(94)),
 ];
 
+const TAGS: [(&[u8], Option<usize>); 12] = [
+    (b"object #\ntype commit\ntag v1\n", None),
+    (b"object #\ntype blob\ntag ", None),
+    (b"object #\ntype tag\ntag x", None),
+    (b"object #\ntype tree\ntag x", None),
+    (b"object #\ntype Commit\ntag x", Some(48)),
+    (b"object #\ntype commit\n", Some(60)),
+    (b"object #\n", Some(48)),
+    (b"", Some(0)),
+    (b"object #\ntype commits\ntag x", Some(48)),
+    (b"object #\ntype commit tag x", Some(48)),
+    (
+        b"object 000102030405060708090A0B0C0D0E0F10111213\ntype commit\ntag x",
+        Some(0),
+    ),
+    (b"object #\ntype commit\ntagger x", Some(60)),
+];
+
 const NAME: &[u8] =
     b"\x00\x01\x02\x03\x04\x05\x06\x07\x08\x09\x0a\x0b\x0c\x0d\x0e\x0f\x10\x11\x12\x13";
 
@@ -114,8 +135,18 @@ fn commits_are_read_or_refused_at_the_place(rt: HostRuntime) -> Result<(), Fail>
     Ok(())
 }
 
-// Names of contents as a blob, a tree, a commit and a tag. The contents are some times the letter x,
-// `hello` and a line feed, and each byte once.
+#[test]
+fn tags_are_read_or_refused_at_the_place(rt: HostRuntime) -> Result<(), Fail> {
+    for (text, place) in TAGS {
+        let bytes = content(rt.alloc(), text)?;
+        let refused = read_tag(&bytes).err();
+        assert_eq!(rt; refused.map(|bad| bad.place), place);
+    }
+    Ok(())
+}
+
+// Names of contents as a blob, a tree, a commit and a tag. The contents are some times the letter
+// x, `hello` and a line feed, and each byte once.
 const REPEATED: [(usize, [&[u8]; 4]); 5] = [
     (
         0,
@@ -198,5 +229,96 @@ fn names_are_those_that_git_gives(rt: HostRuntime) -> Result<(), Fail> {
         bytes.push(byte)?;
     }
     assert!(rt; has_names(&bytes, &EACH_BYTE));
+    Ok(())
+}
+
+const THIS: Oid = Oid([
+    0, 1, 2, 3, 4, 5, 6, 7, 8, 9, 10, 11, 12, 13, 14, 15, 16, 17, 18, 19,
+]);
+
+const OTHER: Oid = Oid([255; 20]);
+
+fn named(alloc: Global, mode: Mode, name: &[u8]) -> Result<NamedEntry, Fail> {
+    let name = Bytes::copy_of(alloc, name)?;
+    Ok(NamedEntry {
+        mode,
+        name,
+        oid: THIS,
+    })
+}
+
+#[test]
+fn trees_are_written_as_read(rt: HostRuntime) -> Result<(), Fail> {
+    let mut entries = Vec::new(rt.alloc());
+    entries.push(named(rt.alloc(), Mode::File, b"a.c")?)?;
+    entries.push(named(rt.alloc(), Mode::Directory, b"a")?)?;
+    entries.push(named(rt.alloc(), Mode::File, b"a0")?)?;
+    let bytes = write_tree(rt.alloc(), &entries)?;
+    let text = content(rt.alloc(), b"100644 a.c\0%40000 a\0%100644 a0\0%")?;
+    assert_eq!(rt; bytes.as_slice(), text.as_slice());
+    let mut read = read_tree(&bytes)?;
+    assert_eq!(rt; read.next().map(|entry| entry.mode), Some(Mode::File));
+    assert_eq!(rt; read.next().map(|entry| entry.mode), Some(Mode::Directory));
+    assert_eq!(rt; read.next().map(|entry| entry.mode), Some(Mode::File));
+    assert_eq!(rt; read.next().is_none(), true);
+    Ok(())
+}
+
+#[test]
+fn trees_out_of_order_are_refused(rt: HostRuntime) -> Result<(), Fail> {
+    let mut entries = Vec::new(rt.alloc());
+    entries.push(named(rt.alloc(), Mode::Directory, b"a")?)?;
+    entries.push(named(rt.alloc(), Mode::File, b"a.c")?)?;
+    entries.push(named(rt.alloc(), Mode::File, b"a0")?)?;
+    assert_eq!(rt;
+        write_tree(rt.alloc(), &entries).err(),
+        Some(TreeFault::BadEntry(1))
+    );
+    Ok(())
+}
+
+#[test]
+fn commits_and_tags_are_written_as_read(rt: HostRuntime) -> Result<(), Fail> {
+    let commit = write_commit(rt.alloc(), &THIS, &[THIS, OTHER], b"author x\n")?;
+    let text = b"tree #\nparent #\nparent ffffffffffffffffffffffffffffffffffffffff\nauthor x\n";
+    let text = content(rt.alloc(), text)?;
+    assert_eq!(rt; commit.as_slice(), text.as_slice());
+    let mut parents = read_commit(&commit)?.parents;
+    assert_eq!(rt; parents.next(), Some(THIS));
+    assert_eq!(rt; parents.next(), Some(OTHER));
+    assert_eq!(rt; parents.next(), None);
+    let tag = write_tag(rt.alloc(), &THIS, Kind::Commit, b"tag v1\n")?;
+    let text = content(rt.alloc(), b"object #\ntype commit\ntag v1\n")?;
+    assert_eq!(rt; tag.as_slice(), text.as_slice());
+    Ok(())
+}
+
+fn link(oid: Oid, kind: Kind) -> LinkTo {
+    LinkTo { oid, kind }
+}
+
+#[test]
+fn links_come_in_the_order_of_the_bytes(rt: HostRuntime) -> Result<(), Fail> {
+    let tree = content(rt.alloc(), b"100644 a\0%40000 b\0%160000 c\0%120000 d\0%")?;
+    let found = links(rt.alloc(), Kind::Tree, &tree)?;
+    let wanted = [
+        link(THIS, Kind::Blob),
+        link(THIS, Kind::Tree),
+        link(THIS, Kind::Blob),
+    ];
+    assert_eq!(rt; found.as_slice(), wanted.as_slice());
+    let commit = write_commit(rt.alloc(), &THIS, &[OTHER], b"author x")?;
+    let found = links(rt.alloc(), Kind::Commit, &commit)?;
+    let wanted = [link(THIS, Kind::Tree), link(OTHER, Kind::Commit)];
+    assert_eq!(rt; found.as_slice(), wanted.as_slice());
+    let tag = write_tag(rt.alloc(), &OTHER, Kind::Blob, b"tag x")?;
+    let found = links(rt.alloc(), Kind::Tag, &tag)?;
+    assert_eq!(rt; found.as_slice(), [link(OTHER, Kind::Blob)].as_slice());
+    assert_eq!(rt; links(rt.alloc(), Kind::Blob, &tag)?.len(), 0);
+    assert_eq!(rt; links(rt.alloc(), Kind::Tree, b"")?.len(), 0);
+    assert_eq!(rt;
+        links(rt.alloc(), Kind::Tree, b"x").err(),
+        Some(LinksFault::Bad(0))
+    );
     Ok(())
 }

@@ -30,7 +30,7 @@ impl<'a> Iterator for TreeEntries<'a> {
 }
 
 // Whether an entry may come behind the one before.
-fn is_in_order(before: &Option<TreeEntry<'_>>, entry: &TreeEntry<'_>) -> bool
+pub(crate) fn is_in_order(before: &Option<TreeEntry<'_>>, entry: &TreeEntry<'_>) -> bool
     ensures { IsTrue result ↔ IsBelow (last_key before.now) (key_of (entry_of entry.now)) }
 {
     match before {
@@ -54,9 +54,9 @@ fn entry_behind<'a>(
     Some((entry, rest))
 }
 
-/// The entries of a tree, whose names lie in the bytes. Bad exactly where the bytes are not a tree's:
-/// each entry is a mode, a space, a name, a NUL and the 20 bytes of an object's name, and the
-/// entries rise by their names, where a directory's counts as if a `/` stood behind it.
+/// The entries of a tree, whose names lie in the bytes. Bad exactly where the bytes are not those
+/// of a tree: each entry is a mode, a space, a name, a NUL and the 20 bytes of an object's name, and
+/// the entries rise by their names, where a directory's counts as if a `/` stood behind it.
 pub fn read_tree(bytes: &[u8]) -> Result<TreeEntries<'_>, Bad>
     ensures tree { IfOk result (λ entries. SpellsTree (entries_of entries) bytes.now) }
     ensures bad { IfErr result (λ bad. BreaksTree bytes.now bad.place) }
