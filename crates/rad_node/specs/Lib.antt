@@ -1,0 +1,15 @@
+pub mod Bundle
+pub mod Entries
+pub mod Form
+pub mod Heads
+pub mod Imports
+pub mod Keys
+pub mod Kinds
+pub mod Numbers
+pub mod Orders
+pub mod Parts
+pub mod Report
+pub mod Store
+pub mod Transfers
+pub mod Words
+pub mod Works

@@ -1,0 +1,14 @@
+-- What was taken from a source, and what a sink was given.
+use Rattle.std.specs.Prelude.{◌≡◌, ℕ, List, ◌++◌, length, Option}
+use Rattle.std.specs.Io.KnownBytes.{Appends, Consumes}
+
+-- n bytes were taken from the front of what is left, and stand behind those from before
+pub record Took (old new : Option (List ℕ)) (before after : List ℕ) (n : ℕ) : Type 0 where
+  pub bytes : List ℕ
+  pub size : length bytes ≡ n
+  pub consumed : Consumes old new bytes
+  pub added : after ≡ before ++ bytes
+
+-- a front of these bytes was given
+abbrev pub AppendsFront : Option (List ℕ) → Option (List ℕ) → List ℕ → Type 0
+AppendsFront old new bytes = (front : List ℕ) × (rest : List ℕ) × (bytes ≡ front ++ rest) × Appends old new front

@@ -1,0 +1,52 @@
+// The run of a command over what it is handed.
+ghost use Rattle.std.specs.Prelude.{◌≡◌};
+ghost use Rattle.std.specs.Io.KnownBytes.{Appends, Keeps};
+ghost use Rattle.rad_outside.specs.Causes.{Rose};
+ghost use Rattle.rad_node.specs.Imports.{Imported, IsCaused, IsNoForm, IsUntouched};
+ghost use Rattle.rad_node.specs.Transfers.{AppendsFront};
+
+use crate::import::import;
+use crate::status::{Status, WhichSource};
+use crate::store::{StoreFault, open_empty};
+use crate::transfer::{ReadFault, read_all};
+use crate::words::is_import;
+use rad_outside::{Disk, Sink, Source};
+use std::alloc::Global;
+
+/// Runs the command that the words give: `import <store> <keyring> <bundle>`.
+///
+/// It tests the words, reads the keyring file, opens the store, reads the bundle, tests the form, appends the
+/// entries and gives the report, in this order. The first refusal ends it. `Unbuilt` comes exactly where the
+/// words, the keyring file, the store and the bundle are not form one.
+pub fn run_local<D: Disk, S: Source, I: Source, W: Sink>(
+    alloc: Global,
+    words: &[String],
+    disk: &mut D,
+    keys: &mut S,
+    input: &mut I,
+    out: &mut W,
+) -> Status
+    ensures cause { IsCaused result (Rose (S.faults keys.old) (S.faults keys.new)) (Rose (I.faults input.old) (I.faults input.new)) (Rose (D.faults disk.old) (D.faults disk.new)) (Rose (W.faults out.old) (W.faults out.new)) }
+    ensures ok { result ≡ Status.Ok → Imported words.now (S.left keys.old) (I.left input.old) (D.reads_as disk.old) (D.images disk.new) (Appends (W.given out.old) (W.given out.new)) }
+    ensures write { result ≡ Status.WriteFault → Imported words.now (S.left keys.old) (I.left input.old) (D.reads_as disk.old) (D.images disk.new) (AppendsFront (W.given out.old) (W.given out.new)) }
+    ensures unbuilt { result ≡ Status.Unbuilt → IsNoForm words.now (S.left keys.old) (I.left input.old) (D.reads_as disk.old) }
+    ensures kept { IsUntouched result → Keeps (D.reads_as disk.old) (D.reads_as disk.new) }
+{
+    if !is_import(words) {
+        return Status::Unbuilt;
+    }
+    let keyring = match read_all(alloc, keys) {
+        Ok(keyring) => keyring,
+        Err(ReadFault::Failed) => return Status::ReadFault(WhichSource::Keys),
+        Err(ReadFault::TooLong) => return Status::Unbuilt,
+        Err(ReadFault::NoMemory) => return Status::NoMemory,
+    };
+    let mut journal = match open_empty(disk) {
+        Ok(journal) => journal,
+        Err(StoreFault::DiskFault(_disk)) => return Status::DiskFault,
+        Err(StoreFault::NotEmpty(_disk)) => return Status::Unbuilt,
+    };
+    let status = import(alloc, &mut journal, &keyring, input, out);
+    let _disk = journal.close();
+    status
+}
