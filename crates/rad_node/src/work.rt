@@ -1,12 +1,9 @@
 // What an import of a bundle has to do: the entries to append, and the report to give.
-ghost use Rattle.std.specs.Prelude.{◌≡◌, ◌≤◌, length, IfOk, IfSome, IfNone};
-ghost use Rattle.std.specs.List.{All};
-ghost use Rattle.rad_node.specs.Entries.{entries_of};
-ghost use Rattle.rad_node.specs.Form.{FormOne, IsForm, IsFormOne};
-ghost use Rattle.rad_node.specs.Parts.{form_one};
-ghost use Rattle.rad_node.specs.Works.{AreFour, IsWork};
+ghost use Rattle.std.specs.Prelude.{◌≡◌, IfOk, IfSome, IfNone};
+ghost use Rattle.rad_node.specs.Form.{FormOne, IsFormOne};
+ghost use Rattle.rad_node.specs.Works.{AreSmall, IsWork};
 
-use crate::form::{Form, form_of};
+use crate::form::form_of;
 use rad_base::{Bytes, NoMemory};
 use ref_journal::Parcel;
 use std::alloc::Global;
@@ -30,20 +27,19 @@ pub(crate) fn work_of(
     let Some(form) = form_of(alloc, keyring, bundle)? else {
         return Ok(None);
     };
-    let entries = parcels_of(alloc, &form)?;
+    let bodies = form.entries(alloc)?;
+    let entries = parcels_of(alloc, &bodies)?;
     let report = form.report(alloc)?;
     Ok(Some(Work { entries, report }))
 }
 
-// The bodies of the form's entries, each framed.
-fn parcels_of(alloc: Global, form: &Form<'_>) -> Result<Vec<Parcel>, NoMemory>
-    requires { IsForm (form_one form.now) }
-    ensures bodies { IfOk result (λ parcels. parcels.items ≡ entries_of (form_one form.now)) }
-    ensures four { IfOk result (λ parcels. AreFour parcels.items) }
+// These bodies, each framed.
+fn parcels_of(alloc: Global, bodies: &[Bytes]) -> Result<Vec<Parcel>, NoMemory>
+    requires { AreSmall bodies.now }
+    ensures { IfOk result (λ parcels. parcels.items ≡ bodies.now) }
 {
-    let bodies = form.entries(alloc)?;
     let mut parcels = Vec::new(alloc);
-    'framing: for body in &bodies {
+    'framing: for body in bodies {
         let parcel = Parcel::of(alloc, body.as_slice())?;
         parcels.push(parcel)?;
     }
