@@ -5,6 +5,7 @@ pub mod Heads
 pub mod Imports
 pub mod Keys
 pub mod Kinds
+pub mod Laws
 pub mod Numbers
 pub mod Orders
 pub mod Parts

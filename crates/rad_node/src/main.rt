@@ -11,6 +11,7 @@ mod identity;
 mod import;
 mod keys;
 mod kinds;
+mod laws;
 mod local;
 mod names;
 mod numbers;
@@ -30,6 +31,7 @@ mod trees;
 mod words;
 mod work;
 
+pub use laws::forms_are_read_in_one_way;
 pub use local::run_local;
 use rad_outside::{FileDisk, FileSource, StdSink};
 pub use status::{Status, WhichSource};

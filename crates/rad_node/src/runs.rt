@@ -94,27 +94,38 @@ fn a_bundle_is_imported_in_pieces_of_any_size(rt: HostRuntime) -> Result<(), Fai
     Ok(())
 }
 
+// A whole file takes two calls of its source, the second of which finds the end.
 #[test]
 fn a_failing_call_is_told(rt: HostRuntime) -> Result<(), Fail> {
     let alloc = rt.alloc();
-    let left = run(
-        alloc,
-        &Given {
-            keys_fails: &[0],
+    let piece = 65_536;
+    for call in [0, 1] {
+        let fails = [call];
+        let given = Given {
+            piece,
+            keys_fails: &fails,
             ..GIVEN
-        },
-    )?;
-    assert_eq!(rt; left.status, Status::ReadFault(WhichSource::Keys));
-    assert_eq!(rt; left.store.as_slice(), MADE);
-    let left = run(
-        alloc,
-        &Given {
-            input_fails: &[1],
+        };
+        let left = run(alloc, &given)?;
+        assert_eq!(rt;
+            left.status,
+            Status::ReadFault(WhichSource::Keys),
+            "at call {call}"
+        );
+        assert_eq!(rt; left.store.as_slice(), MADE);
+        let given = Given {
+            piece,
+            input_fails: &fails,
             ..GIVEN
-        },
-    )?;
-    assert_eq!(rt; left.status, Status::ReadFault(WhichSource::Input));
-    assert_eq!(rt; left.store.as_slice(), MADE);
+        };
+        let left = run(alloc, &given)?;
+        assert_eq!(rt;
+            left.status,
+            Status::ReadFault(WhichSource::Input),
+            "at call {call}"
+        );
+        assert_eq!(rt; left.store.as_slice(), MADE);
+    }
     let left = run(
         alloc,
         &Given {
