@@ -30,6 +30,15 @@ IsUntouched DiskFault = ⊥
 IsUntouched NoMemory = ⊥
 IsUntouched Unbuilt = Unit {0}
 
+-- the run ended before its report: nothing is given to the sink
+abbrev pub IsSilent : Status → Type 0
+IsSilent Ok = ⊥
+IsSilent (ReadFault which) = Unit {0}
+IsSilent WriteFault = ⊥
+IsSilent DiskFault = Unit {0}
+IsSilent NoMemory = Unit {0}
+IsSilent Unbuilt = Unit {0}
+
 -- every entry was acknowledged
 abbrev pub HasEntered : Status → Type 0
 HasEntered Ok = Unit {0}
@@ -49,7 +58,9 @@ IsEnd NoMemory = ⊥
 IsEnd Unbuilt = ⊥
 
 -- a bundle of form one was entered and reported
-pub record Entered (keyring : List ℕ) (bundle : Option (List ℕ)) (grows : List (List ℕ) → Type 0) (gave : List ℕ → Type 0) : Type 0 where
+pub record Entered
+    (keyring : List ℕ) (bundle : Option (List ℕ)) (grows : List (List ℕ) → Type 0) (gave : List ℕ → Type 0)
+    : Type 0 where
   pub form : FormOne
   pub is : IfSome bundle (λ bytes. IsFormOne keyring bytes form)
   pub entries : grows (entries_of form)
@@ -61,7 +72,10 @@ LeavesOnly bodies images = (image : List ℕ) → images image → HasBodies bod
 
 -- The words, the keyring file, the bundle and the store were form one, as far as they are told. Every image that
 -- a crash now may leave has exactly the form's entries, and this was given of its report.
-pub record Imported {A : Type 0} (words : List (String A)) (keyring bundle store : Option (List ℕ)) (images : List ℕ → Type 0) (gave : List ℕ → Type 0) : Type 0 where
+pub record Imported
+    {A : Type 0} (words : List (String A)) (keyring bundle store : Option (List ℕ))
+    (images : List ℕ → Type 0) (gave : List ℕ → Type 0)
+    : Type 0 where
   pub form : FormOne
   pub command : IsImport words
   pub is : IfSome keyring (λ file. IfSome bundle (λ bytes. IsFormOne file bytes form))
@@ -70,7 +84,8 @@ pub record Imported {A : Type 0} (words : List (String A)) (keyring bundle store
   pub report : gave (report_of form)
 
 -- the words, the keyring file, the bundle and the store, all of which are told, are not form one
-abbrev pub IsNoForm : {A : Type 0} → List (String A) → Option (List ℕ) → Option (List ℕ) → Option (List ℕ) → Type 0
+abbrev pub IsNoForm :
+    {A : Type 0} → List (String A) → Option (List ℕ) → Option (List ℕ) → Option (List ℕ) → Type 0
 IsNoForm words keyring bundle store =
     IfSome keyring (λ file. IfSome bundle (λ bytes. IfSome store (λ disk.
     (form : FormOne) → IsImport words → IsFormOne file bytes form → HasBodies [] disk → ⊥)))

@@ -2,7 +2,7 @@
 ghost use Rattle.std.specs.Prelude.{◌≡◌};
 ghost use Rattle.std.specs.Io.KnownBytes.{Appends, Keeps};
 ghost use Rattle.rad_outside.specs.Causes.{Rose};
-ghost use Rattle.rad_node.specs.Imports.{Imported, IsCaused, IsNoForm, IsUntouched};
+ghost use Rattle.rad_node.specs.Imports.{Imported, IsCaused, IsNoForm, IsSilent, IsUntouched};
 ghost use Rattle.rad_node.specs.Transfers.{AppendsFront};
 
 use crate::import::import;
@@ -26,11 +26,19 @@ pub fn run_local<D: Disk, S: Source, I: Source, W: Sink>(
     input: &mut I,
     out: &mut W,
 ) -> Status
-    ensures cause { IsCaused result (Rose (S.faults keys.old) (S.faults keys.new)) (Rose (I.faults input.old) (I.faults input.new)) (Rose (D.faults disk.old) (D.faults disk.new)) (Rose (W.faults out.old) (W.faults out.new)) }
-    ensures ok { result ≡ Status.Ok → Imported words.now (S.left keys.old) (I.left input.old) (D.reads_as disk.old) (D.images disk.new) (Appends (W.given out.old) (W.given out.new)) }
-    ensures write { result ≡ Status.WriteFault → Imported words.now (S.left keys.old) (I.left input.old) (D.reads_as disk.old) (D.images disk.new) (AppendsFront (W.given out.old) (W.given out.new)) }
-    ensures unbuilt { result ≡ Status.Unbuilt → IsNoForm words.now (S.left keys.old) (I.left input.old) (D.reads_as disk.old) }
+    ensures cause { IsCaused result
+        (Rose (S.faults keys.old) (S.faults keys.new)) (Rose (I.faults input.old) (I.faults input.new))
+        (Rose (D.faults disk.old) (D.faults disk.new)) (Rose (W.faults out.old) (W.faults out.new)) }
+    ensures ok { result ≡ Status.Ok → Imported words.now
+        (S.left keys.old) (I.left input.old) (D.reads_as disk.old) (D.images disk.new)
+        (Appends (W.given out.old) (W.given out.new)) }
+    ensures write { result ≡ Status.WriteFault → Imported words.now
+        (S.left keys.old) (I.left input.old) (D.reads_as disk.old) (D.images disk.new)
+        (AppendsFront (W.given out.old) (W.given out.new)) }
+    ensures unbuilt { result ≡ Status.Unbuilt → IsNoForm words.now
+        (S.left keys.old) (I.left input.old) (D.reads_as disk.old) }
     ensures kept { IsUntouched result → Keeps (D.reads_as disk.old) (D.reads_as disk.new) }
+    ensures silent { IsSilent result → Keeps (W.given out.old) (W.given out.new) }
 {
     if !is_import(words) {
         return Status::Unbuilt;

@@ -41,7 +41,8 @@ use std::process::ExitCode;
 const HELP: &str = "\
 usage: rad_node import STORE KEYRING BUNDLE
 
-Takes what a bundle offers into a store, and reports what stands and why.
+Takes what a bundle offers into a store, and reports what stands. As yet it takes the smallest
+bundle alone: one remote, one commit.
   STORE    the file of a made store without entries
   KEYRING  the file of accepted signatures
   BUNDLE   the file of a repository's objects and signed refs

@@ -1,8 +1,8 @@
 // Runs of the import over objects in memory. What must come out was made by another program.
 use crate::tests::{KEYRING, REPORT, bundle_in};
 use crate::{Status, WhichSource, run_local};
-use rad_outside::{MemDisk, MemSink, MemSource};
-use ref_journal::{Journal, OpenFault};
+use rad_outside::{MemDisk, MemSink, MemSource, Source};
+use ref_journal::Journal;
 use std::alloc::Global;
 use std::test::Fail;
 
@@ -46,11 +46,16 @@ struct Left {
     report: Vec<u8>,
 }
 
-fn run(alloc: Global, given: &Given<'_>) -> Result<Left, Fail> {
+fn words_of(alloc: Global, texts: &[&str]) -> Result<Vec<String>, Fail> {
     let mut words = Vec::new(alloc);
-    for word in ["import", "store", "keyring", "bundle"] {
-        words.push(String::from_str(alloc, word)?)?;
+    for text in texts {
+        words.push(String::from_str(alloc, text)?)?;
     }
+    Ok(words)
+}
+
+fn run(alloc: Global, given: &Given<'_>) -> Result<Left, Fail> {
+    let words = words_of(alloc, &["import", "store", "keyring", "bundle"])?;
     let piece = given.piece.max(1);
     let mut disk = MemDisk::new(
         alloc,
@@ -162,7 +167,7 @@ fn a_failing_disk_leaves_a_front_of_the_entries(rt: HostRuntime) -> Result<(), F
         assert_eq!(rt; left.store.get(..end), JOURNAL.get(..end), "at call {call}");
         failed += 1;
     }
-    assert!(rt; failed > 16);
+    assert_eq!(rt; failed, 20);
     Ok(())
 }
 
@@ -198,6 +203,36 @@ fn what_is_not_form_one_is_left_alone(rt: HostRuntime) -> Result<(), Fail> {
         assert_eq!(rt; left.status, Status::Unbuilt);
         assert_eq!(rt; left.store.as_slice(), given.store);
         assert!(rt; left.report.is_empty());
+    }
+    Ok(())
+}
+
+// A file of 70,000 bytes is read to one byte past the limit. Wrong words read nothing.
+#[test]
+fn no_more_is_read_than_is_wanted(rt: HostRuntime) -> Result<(), Fail> {
+    let alloc = rt.alloc();
+    let cases = [
+        (
+            words_of(alloc, &["import", "store", "keyring", "bundle"])?,
+            65_537 % 251,
+        ),
+        (words_of(alloc, &["import", "store", "keyring"])?, 0),
+        (words_of(alloc, &["import", "store", "", "bundle"])?, 0),
+    ];
+    for (words, next) in &cases {
+        let mut long = Vec::new(alloc);
+        for number in 0..70_000_u32 {
+            long.push((number % 251) as u8)?;
+        }
+        let mut disk = MemDisk::new(alloc, MADE.to_vec(alloc)?, Vec::new(alloc));
+        let mut keys = MemSource::new(long, 4_096, Vec::new(alloc));
+        let mut input = MemSource::new(Vec::new(alloc), 1, Vec::new(alloc));
+        let mut out = MemSink::new(alloc, Vec::new(alloc));
+        let status = run_local(alloc, words, &mut disk, &mut keys, &mut input, &mut out);
+        assert_eq!(rt; status, Status::Unbuilt);
+        let mut byte = [0; 1];
+        assert_eq!(rt; keys.take(&mut byte), Ok(1));
+        assert_eq!(rt; u32::from(byte[0]), *next);
     }
     Ok(())
 }

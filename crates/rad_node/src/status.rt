@@ -29,7 +29,7 @@ pub enum Status {
     Ok,
     /// A call of that source failed.
     ReadFault(WhichSource),
-    /// A call of the sink failed. A front of the report was given.
+    /// A call of the sink failed. A prefix of the report was given.
     WriteFault,
     /// A call of the disk failed.
     DiskFault,
