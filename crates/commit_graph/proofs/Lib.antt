@@ -1,0 +1,15 @@
+pub mod Adding
+pub mod Causes
+pub mod ChainLines
+pub mod ClosureTurns
+pub mod HistoryWalks
+pub mod LeastNames
+pub mod Marks
+pub mod Members
+pub mod NameSets
+pub mod Named
+pub mod PairOrder
+pub mod PairSteps
+pub mod Prefixes
+pub mod Spread
+pub mod Walked

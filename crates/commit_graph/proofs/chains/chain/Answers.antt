@@ -1,0 +1,53 @@
+use Rattle.std.proofs.Common.{◌≡◌, ◌++◌, [], ◌∷◌, List, sym, ap, subst, ◌∙◌, reverse, slice_index_or, arith}
+use Rattle.std.specs.Prelude.{Contains, map}
+use Rattle.std.proofs.lemmas.Bool.{false≢true}
+use Rattle.rad_base.specs.declared.names.Oid.{Oid}
+use Rattle.commit_graph.specs.declared.root.Root.{Root}
+use Rattle.commit_graph.specs.Pairs.{as_commit, oid_of}
+use Rattle.commit_graph.specs.Chains.{HasParents, IsChain}
+use Rattle.commit_graph.proofs.ChainLines.{line_turn, line_returns, line_chain, line_parents, one_item, no_item, added_new}
+use Rattle.commit_graph.proofs.chains.chain.Goals as goal
+
+pub returns-then-contains-clause-refused : goal.returns-then-contains-clause-refused
+returns-then-contains-clause-refused g c = λ m e.
+    line_returns (c.walking.invariant.line m e)
+    (subst (λ (pair : Root). Contains c.walking.line pair) c.commit.ensures (c.contains.ensures.0 c.if-contains.true))
+
+pub returns-in-empty-clause-told : goal.returns-in-empty-clause-told
+returns-in-empty-clause-told g c = λ m e.
+    let h = c.walking.invariant.line m e in
+    let lacks : Contains c.walking.line (as_commit c.walking.oid) → ⊥ = λ has.
+    false≢true (sym c.if-contains.false ∙ c.contains.ensures.1 (subst (λ (pair : Root). Contains c.walking.line pair) (sym c.commit.ensures) has)) in
+    let pushed : c.add.new.self ≡ c.walking.line ++ as_commit c.walking.oid ∷ [] = added_new c.in_ok-add.ensures.ok c.commit-in-walking.ensures lacks in
+    let parents : HasParents m c.walking.oid c.in_ok-parents.parents.items = line_parents (c.requires m e) h (c.in_ok-parents.ensures.told m (c.walking.invariant.kept ∙ e)) in
+    let none : c.in_ok-parents.parents.items ≡ [] = sym c.as_slice.ensures.value ∙ no_item c.as_slice.result.now c.in-empty.len_below in
+    let names : c.of.result ≡ map oid_of (reverse c.add.new.self) =
+    c.of.ensures ∙ c.in_ok-names_back-in-empty.ensures ∙ ap (λ (pairs : List Root). map oid_of (reverse pairs)) c.as_slice-in-empty.ensures in
+    line_chain h pushed names (subst (HasParents m c.walking.oid) none parents)
+
+pub returns-in_default-clause-refused : goal.returns-in_default-clause-refused
+returns-in_default-clause-refused g c = λ m e.
+    let h = c.walking.invariant.line m e in
+    let parents : HasParents m c.walking.oid c.in_ok-parents.parents.items = line_parents (c.requires m e) h (c.in_ok-parents.ensures.told m (c.walking.invariant.kept ∙ e)) in
+    record {
+      line = h.commits;
+      walked = h.walked;
+      parents = c.as_slice.result.now;
+      has = subst (HasParents m c.walking.oid) (sym c.as_slice.ensures.value) parents;
+      several = c.in_default.len_at_least;
+    }
+
+pub walking-preserved : goal.walking-preserved
+walking-preserved g c = record {
+  kept = c.in_ok-parents.ensures.kept ∙ c.walking.invariant.kept;
+  beside = c.in_ok-parents.ensures.beside ∙ c.walking.invariant.beside;
+  rising = omega (arith, c.in_ok-parents.ensures.cause.later, c.walking.invariant.rising);
+  line = λ m e.
+      let h = c.walking.invariant.line m e in
+      let lacks : Contains c.walking.line (as_commit c.walking.oid) → ⊥ = λ has.
+      false≢true (sym c.if-contains.false ∙ c.contains.ensures.1 (subst (λ (pair : Root). Contains c.walking.line pair) (sym c.commit.ensures) has)) in
+      let pushed : c.add.new.self ≡ c.walking.line ++ as_commit c.walking.oid ∷ [] = added_new c.in_ok-add.ensures.ok c.commit-in-walking.ensures lacks in
+      let parents : HasParents m c.walking.oid c.in_ok-parents.parents.items = line_parents (c.requires m e) h (c.in_ok-parents.ensures.told m (c.walking.invariant.kept ∙ e)) in
+      let one = one_item c.as_slice.result.now (record { 0 = [] }) c.in-len1.len_at_least c.in-len1.len_below in
+      line_turn h lacks pushed (subst (HasParents m c.walking.oid) (sym c.as_slice.ensures.value ∙ one) parents);
+}

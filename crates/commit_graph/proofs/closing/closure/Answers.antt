@@ -1,0 +1,39 @@
+use Rattle.std.proofs.Common.{◌≡◌, List, take, Some, sym, ap, subst, ◌∙◌, arith}
+use Rattle.std.specs.Prelude.{map}
+use Rattle.std.proofs.lemmas.List.{take_all}
+use Rattle.commit_graph.specs.declared.answer.Closure.{Closure}
+use Rattle.commit_graph.specs.declared.look.Looked.{Looked}
+use Rattle.commit_graph.specs.declared.root.Root.{Root}
+use Rattle.commit_graph.specs.Pairs.{pair_of}
+use Rattle.commit_graph.specs.Looks.{Shows}
+use Rattle.commit_graph.specs.Closures.{IsClosure}
+use Rattle.commit_graph.proofs.Adding.{extends_along}
+use Rattle.commit_graph.proofs.ClosureTurns.{progress_turn, turned_missing, turned_unfit, turned_fit, closure_answer, Tally}
+use Rattle.commit_graph.proofs.Spread.{spread_all}
+use Rattle.commit_graph.proofs.closing.closure.Goals as goal
+use Rattle.commit_graph.proofs.closing.closure.Goals.{in-Missing, in-Unfit, in-Fit+in_ok-follow-in-Fit}
+
+pub loop-i-preserved : goal.loop-i-preserved
+loop-i-preserved g c = record {
+  kept = c.in_ok-look.ensures.kept ∙ c.loop-i.invariant.kept;
+  beside = c.in_ok-look.ensures.beside ∙ c.loop-i.invariant.beside;
+  rising = omega (arith, c.in_ok-look.ensures.cause.later, c.loop-i.invariant.rising);
+  progress = λ m e.
+      let told : Shows m c.at-pair.result c.in_ok-look.field-0 = c.in_ok-look.ensures.told m (c.loop-i.invariant.kept ∙ e) in
+      let shows = λ (looked : Looked). Shows m c.at-pair.result looked in
+      progress_turn c.at-pair.result c.at-pair.ensures (c.loop-i.invariant.progress m e)
+      (elim c.match-branch-3.branch [
+        | in-Missing w ↦ turned_missing (subst shows w.in-Missing.is told) w.found-is w.missing-is w.lesser.ensures w.unfit-is
+        | in-Unfit w ↦ turned_unfit (subst shows w.in-Unfit.is told) w.found-is w.missing-is w.unfit-is w.lesser-in-Unfit.ensures
+        | in-Fit+in_ok-follow-in-Fit w ↦ turned_fit (subst shows w.in-Fit.is told)
+            (extends_along (ap (map pair_of) w.as_slice.ensures.value) (sym w.found-is) w.in_ok-follow-in-Fit.ensures) w.missing-is w.unfit-is
+      ]);
+}
+
+pub returns-clause-told : goal.returns-clause-told
+returns-clause-told g c = λ m e.
+    let all : take c.loop-i.i c.loop-i.found ≡ c.loop-i.found = take_all c.loop-i.i c.loop-i.found (omega arith) in
+    let h = c.loop-i.invariant.progress m e in
+    subst (λ (answer : Closure). IsClosure m c.args.roots.now answer) (sym c.answer.ensures)
+    (closure_answer m c.args.roots.now c.loop-i.found (spread_all h.spread all) c.loop-i.missing c.loop-i.unfit
+    (g.met.O.Objects.named c.args.objects.now m e) (subst (λ (done : List Root). Tally m done c.loop-i.missing c.loop-i.unfit) all h.tally))

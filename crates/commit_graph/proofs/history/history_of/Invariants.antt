@@ -1,0 +1,21 @@
+use Rattle.std.proofs.Common.{◌≡◌, ◌≤◌, ◌-◌, ◌^◌, [], ◌∷◌, take}
+use Rattle.std.specs.Option.{ForSome}
+use Rattle.commit_graph.specs.Pairs.{as_commit}
+use Rattle.commit_graph.specs.Histories.{IsParent}
+use Rattle.commit_graph.proofs.Spread.{Spread}
+use Rattle.commit_graph.proofs.history.history_of.Given as goal
+
+abbrev pub invariant-loop-i : goal.invariant-loop-i
+invariant-loop-i g l =
+    let content = g.O.Objects.content in
+    let beside = g.O.Objects.beside in
+    let faults = g.O.Objects.faults in
+    record {
+      kept : content l.objects ≡ content l.fn.objects;
+      beside : beside l.objects ≡ beside l.fn.objects;
+      rising : faults l.fn.objects ≤ faults l.objects;
+      spread : ForSome (content l.fn.objects) (λ m. Spread (IsParent m) (as_commit l.fn.new ∷ []) (take l.i l.found) l.found);
+    }
+
+abbrev pub decreases-loop-i : goal.decreases-loop-i
+decreases-loop-i g l = 2 ^ 64 - l.i

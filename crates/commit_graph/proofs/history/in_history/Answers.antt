@@ -1,0 +1,38 @@
+use Rattle.std.proofs.Common.{◌≡◌, take, refl, sym, ◌∙◌, arith}
+use Rattle.std.proofs.lemmas.List.{take_all}
+use Rattle.std.proofs.lemmas.Bool.{false≢true}
+use Rattle.commit_graph.proofs.Members.{contains_at}
+use Rattle.commit_graph.specs.declared.root.Root.{Root}
+use Rattle.commit_graph.proofs.Adding.{take_grown}
+use Rattle.commit_graph.proofs.HistoryWalks.{history_found, history_none}
+use Rattle.commit_graph.proofs.Spread.{spread_follows, done_turn}
+use Rattle.commit_graph.proofs.history.in_history.Goals as goal
+
+pub returns-then-is_named-clause-told : goal.returns-then-is_named-clause-told
+returns-then-is_named-clause-told g c = λ m e. (
+  λ _. history_found m c.args.old.now c.args.new.now c.at-pair.result (c.loop-i.invariant.spread m e)
+      (contains_at c.loop-i.found c.loop-i.i c.at-pair.result c.at-pair.ensures) (c.is_named.ensures.0 c.if-is_named.true),
+  λ _. refl,
+)
+
+pub loop-i-preserved : goal.loop-i-preserved
+loop-i-preserved g c = record {
+  kept = c.in_ok-follow_parents.ensures.kept ∙ c.loop-i.invariant.kept;
+  beside = c.in_ok-follow_parents.ensures.beside ∙ c.loop-i.invariant.beside;
+  rising = omega (arith, c.in_ok-follow_parents.ensures.cause.later, c.loop-i.invariant.rising);
+  spread = λ m e.
+      spread_follows c.loop-i.i c.at-pair.result c.at-pair.ensures (c.loop-i.invariant.spread m e)
+      (c.in_ok-follow_parents.ensures.told m (c.loop-i.invariant.kept ∙ e));
+  other = λ m e.
+      let follows = c.in_ok-follow_parents.ensures.told m (c.loop-i.invariant.kept ∙ e) in
+      done_turn (λ (q : Root). q.oid ≡ c.args.old.now → ⊥) (take c.loop-i.i c.loop-i.found) (c.loop-i.invariant.other m e)
+      (λ same. absurd (false≢true (sym c.if-is_named.false ∙ c.is_named.ensures.1 same)))
+      (take_grown c.loop-i.i c.at-pair.ensures follows.grown);
+}
+
+pub returns-clause-told : goal.returns-clause-told
+returns-clause-told g c = λ m e.
+    let all : take c.loop-i.i c.loop-i.found ≡ c.loop-i.found = take_all c.loop-i.i c.loop-i.found (omega arith) in (
+      λ h. absurd (false≢true h),
+      λ r. absurd (history_none m c.args.old.now c.args.new.now (c.loop-i.invariant.spread m e) all (c.loop-i.invariant.other m e) r),
+    )

@@ -1,0 +1,20 @@
+use Rattle.std.proofs.Common.{◌≡◌, take, ◌∙◌, arith}
+use Rattle.std.proofs.lemmas.List.{take_all}
+use Rattle.commit_graph.proofs.Spread.{spread_follows, spread_end}
+use Rattle.commit_graph.proofs.reaching.walk.Goals as goal
+
+pub loop-i-preserved : goal.loop-i-preserved
+loop-i-preserved g c = record {
+  kept = c.in_ok-follow_links.ensures.kept ∙ c.loop-i.invariant.kept;
+  beside = c.in_ok-follow_links.ensures.beside ∙ c.loop-i.invariant.beside;
+  rising = omega (arith, c.in_ok-follow_links.ensures.cause.later, c.loop-i.invariant.rising);
+  spread = λ m e.
+      spread_follows c.loop-i.i c.at-pair.result c.at-pair.ensures (c.loop-i.invariant.spread m e)
+      (c.in_ok-follow_links.ensures.told m (c.loop-i.invariant.kept ∙ e));
+}
+
+pub returns-clause-told : goal.returns-clause-told
+returns-clause-told g c = λ m e pair.
+    let all : take c.loop-i.i c.loop-i.found ≡ c.loop-i.found = take_all c.loop-i.i c.loop-i.found (omega arith) in
+    let h = c.loop-i.invariant.spread m e in
+    (λ k. h.sound pair k, λ r. spread_end h all pair r)

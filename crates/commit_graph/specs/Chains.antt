@@ -1,0 +1,74 @@
+-- Commits that have one parent each.
+use Rattle.std.specs.Prelude.{◌≡◌, ℕ, ◌≤◌, List, [], ◌∷◌, length, map, filter, Contains, Some, Option, Result, IfErr}
+use Rattle.rad_base.specs.declared.names.Oid.{Oid}
+use Rattle.git_object.specs.declared.kind.Kind.TheVariants.{Commit}
+use Rattle.git_object.specs.declared.link.LinkTo.{LinkTo}
+use Rattle.git_object.specs.Links.{links, IsWellFormed}
+use Rattle.commit_graph.specs.declared.chains.ChainFault.{ChainFault}
+use Rattle.commit_graph.specs.declared.chains.ChainFault.TheVariants.{TwoParents, NoRoot, Get}
+use Rattle.commit_graph.specs.Objects.{ObjectMap}
+use Rattle.commit_graph.specs.Faults.{IsCause}
+use Rattle.commit_graph.specs.Pairs.{is_commit_link}
+use Rattle.commit_graph.specs.Walks.{Walk}
+
+-- the links to commits, in order
+abbrev pub parents_in : List LinkTo → List Oid
+parents_in found = map (λ link. link.oid) (filter is_commit_link found)
+
+-- the name has a commit, which is well formed and has these parents in order
+pub record HasParents (objects : ObjectMap) (oid : Oid) (parents : List Oid) : Type 0 where
+  pub bytes : List ℕ
+  pub there : objects oid ≡ Some (Commit, bytes)
+  pub formed : IsWellFormed Commit bytes
+  pub are : parents ≡ parents_in (links Commit bytes)
+
+-- the first is the only parent of the second
+abbrev pub IsOnlyParent : ObjectMap → Oid → Oid → Type 0
+IsOnlyParent objects parent child = HasParents objects child (parent ∷ [])
+
+-- the first commit has no parent, each later one has the one before as its only parent, and the last is the tip
+abbrev pub IsChain : ObjectMap → List Oid → Oid → Type 0
+IsChain objects [] tip = ⊥
+IsChain objects (root ∷ later) tip = HasParents objects root [] × Walk (IsOnlyParent objects) root later tip
+
+-- from a commit on, each of the list has one parent, which is the next, and that of the last is the end
+abbrev pub IsLine : ObjectMap → Oid → List Oid → Oid → Type 0
+IsLine objects from [] end = from ≡ end
+IsLine objects from (oid ∷ line) end = (from ≡ oid) × ((parent : Oid) × IsOnlyParent objects parent oid × IsLine objects parent line end)
+
+-- no item stands in the list twice
+abbrev pub NoRepeat : {X : Type 0} → List X → Type 0
+NoRepeat [] = Unit {0}
+NoRepeat (x ∷ xs) = (Contains xs x → ⊥) × NoRepeat xs
+
+-- the first commit from the tip that has two parents or more
+pub record IsFork (objects : ObjectMap) (tip oid : Oid) : Type 0 where
+  pub line : List Oid
+  pub walked : IsLine objects tip line oid
+  pub parents : List Oid
+  pub has : HasParents objects oid parents
+  pub several : 2 ≤ length parents
+
+-- the walk from the tip comes back to this commit
+pub record IsReturn (objects : ObjectMap) (tip oid : Oid) : Type 0 where
+  pub line : List Oid
+  pub walked : IsLine objects tip line oid
+  pub among : Contains line oid
+  pub once : NoRepeat line
+
+-- each refusal by what the walk from the tip came to
+abbrev pub IsChainFault : ObjectMap → Oid → ChainFault → Type 0
+IsChainFault objects tip (TwoParents oid) = IsFork objects tip oid
+IsChainFault objects tip (NoRoot oid) = IsReturn objects tip oid
+IsChainFault objects tip (Get why) = Unit {0}
+
+-- the cause of a fault that a look-up met
+abbrev pub IsGetCause : Option ObjectMap → ℕ → ℕ → ChainFault → Type 0
+IsGetCause content before now (TwoParents oid) = Unit {0}
+IsGetCause content before now (NoRoot oid) = Unit {0}
+IsGetCause content before now (Get why) = IsCause content before now why
+
+-- the count of faults never falls, and a fault that a look-up met has its cause
+pub record HasGetCause {T : Type 0} (content : Option ObjectMap) (before now : ℕ) (result : Result T ChainFault) : Type 0 where
+  pub later : before ≤ now
+  pub cause : IfErr result (IsGetCause content before now)

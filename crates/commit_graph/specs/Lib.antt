@@ -1,0 +1,11 @@
+pub mod Chains
+pub mod Closures
+pub mod Faults
+pub mod Histories
+pub mod InMemory
+pub mod Lists
+pub mod Looks
+pub mod Memory
+pub mod Objects
+pub mod Pairs
+pub mod Walks

@@ -1,0 +1,68 @@
+// Whether all that some roots reach is there and well formed.
+ghost use Rattle.std.specs.Prelude.{◌≡◌, ◌≤◌, IfOk};
+ghost use Rattle.std.specs.Option.{ForSome};
+ghost use Rattle.commit_graph.specs.Faults.{HasCause};
+ghost use Rattle.commit_graph.specs.Closures.{IsClosure};
+ghost use Rattle.commit_graph.specs.Looks.{IsLesser, answer_of};
+
+use crate::answer::Closure;
+use crate::look::{Looked, look};
+use crate::visited::Visited;
+use crate::{GetFault, Objects, Root};
+use rad_base::Oid;
+use std::alloc::Global;
+use std::cmp::Ordering;
+
+/// The lesser of the least name so far, if there is one, and one more.
+pub fn lesser(best: Option<Oid>, oid: Oid) -> Oid
+    ensures { IsLesser best oid result }
+{
+    match best {
+        None => oid,
+        Some(other) => {
+            if oid.cmp(&other) == Ordering::Less {
+                oid
+            } else {
+                other
+            }
+        }
+    }
+}
+
+pub(crate) fn answer(missing: Option<Oid>, unfit: Option<Oid>) -> Closure
+    ensures { result ≡ answer_of missing unfit }
+{
+    match (missing, unfit) {
+        (Some(oid), _) => Closure::Missing(oid),
+        (None, Some(oid)) => Closure::BadObject(oid),
+        (None, None) => Closure::Closed,
+    }
+}
+
+/// Whether all that the roots reach is there, of its expected kind and well formed.
+pub fn closure<O: Objects>(
+    alloc: Global,
+    objects: &mut O,
+    roots: &[Root],
+) -> Result<Closure, GetFault>
+    ensures told { ForSome (O.content objects.old) (λ m. IfOk result (IsClosure m roots.now)) }
+    ensures kept { O.content objects.new ≡ O.content objects.old }
+    ensures beside { O.beside objects.new ≡ O.beside objects.old }
+    ensures cause { HasCause (O.content objects.old) (O.faults objects.old) (O.faults objects.new) result }
+{
+    let mut found = Visited::new(alloc);
+    found.extend(roots)?;
+    let mut missing = None;
+    let mut unfit = None;
+    let mut i = 0;
+    while i < found.len() {
+        let pair = found.at(i);
+        match look(alloc, objects, pair)? {
+            Looked::Missing => missing = Some(lesser(missing, pair.oid)),
+            Looked::Unfit => unfit = Some(lesser(unfit, pair.oid)),
+            Looked::Fit(links) => found.follow(links.as_slice())?,
+        }
+        i += 1;
+    }
+    Ok(answer(missing, unfit))
+}

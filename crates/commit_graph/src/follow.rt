@@ -1,0 +1,50 @@
+// One step of a walk.
+ghost use Rattle.std.specs.Prelude.{◌≡◌, ◌≤◌, OnOk};
+ghost use Rattle.std.specs.Option.{ForSome};
+ghost use Rattle.commit_graph.specs.Faults.{HasCause};
+ghost use Rattle.commit_graph.specs.Lists.{Follows};
+ghost use Rattle.commit_graph.specs.Pairs.{IsLink};
+ghost use Rattle.commit_graph.specs.Histories.{IsParent};
+
+use crate::look::{Looked, look};
+use crate::visited::Visited;
+use crate::{GetFault, Objects, Root};
+use std::alloc::Global;
+
+/// Adds those of the links of a pair that are not there yet.
+pub(crate) fn follow_links<O: Objects>(
+    alloc: Global,
+    objects: &mut O,
+    found: &mut Visited,
+    pair: Root,
+) -> Result<(), GetFault>
+    ensures told { ForSome (O.content objects.old)
+        (λ m. OnOk result (Follows (IsLink m) pair found.old found.new)) }
+    ensures kept { O.content objects.new ≡ O.content objects.old }
+    ensures beside { O.beside objects.new ≡ O.beside objects.old }
+    ensures cause { HasCause (O.content objects.old) (O.faults objects.old) (O.faults objects.new) result }
+{
+    match look(alloc, objects, pair)? {
+        Looked::Fit(links) => Ok(found.follow(links.as_slice())?),
+        Looked::Missing | Looked::Unfit => Ok(()),
+    }
+}
+
+/// Adds those of the parents of a pair that are not there yet.
+pub(crate) fn follow_parents<O: Objects>(
+    alloc: Global,
+    objects: &mut O,
+    found: &mut Visited,
+    pair: Root,
+) -> Result<(), GetFault>
+    ensures told { ForSome (O.content objects.old)
+        (λ m. OnOk result (Follows (IsParent m) pair found.old found.new)) }
+    ensures kept { O.content objects.new ≡ O.content objects.old }
+    ensures beside { O.beside objects.new ≡ O.beside objects.old }
+    ensures cause { HasCause (O.content objects.old) (O.faults objects.old) (O.faults objects.new) result }
+{
+    match look(alloc, objects, pair)? {
+        Looked::Fit(links) => Ok(found.follow_commits(links.as_slice())?),
+        Looked::Missing | Looked::Unfit => Ok(()),
+    }
+}

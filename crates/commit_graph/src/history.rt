@@ -1,0 +1,78 @@
+// The history of a commit.
+ghost use Rattle.std.specs.Prelude.{◌≡◌, ◌≤◌, ◌↔◌, IsTrue, IfOk};
+ghost use Rattle.std.specs.Option.{ForSome};
+ghost use Rattle.commit_graph.specs.Faults.{HasCause};
+ghost use Rattle.commit_graph.specs.Histories.{InHistory, HasCommit};
+
+use crate::follow::follow_parents;
+use crate::root::{commit, is_named};
+use crate::visited::Visited;
+use crate::{GetFault, Objects};
+use rad_base::Oid;
+use std::alloc::Global;
+
+/// Whether the commit `old` lies in the history of the commit `new`: parent links alone lead from
+/// `new` to it. A commit lies in its own history.
+pub fn in_history<O: Objects>(
+    alloc: Global,
+    objects: &mut O,
+    old: &Oid,
+    new: &Oid,
+) -> Result<bool, GetFault>
+    ensures told { ForSome (O.content objects.old) (λ m. IfOk result (λ is. IsTrue is
+        ↔ InHistory m old.now new.now)) }
+    ensures kept { O.content objects.new ≡ O.content objects.old }
+    ensures beside { O.beside objects.new ≡ O.beside objects.old }
+    ensures cause { HasCause (O.content objects.old) (O.faults objects.old) (O.faults objects.new) result }
+{
+    let mut found = Visited::new(alloc);
+    found.add(commit(*new))?;
+    let mut i = 0;
+    while i < found.len() {
+        let pair = found.at(i);
+        if is_named(pair, old) {
+            return Ok(true);
+        }
+        follow_parents(alloc, objects, &mut found, pair)?;
+        i += 1;
+    }
+    Ok(false)
+}
+
+/// The commits of a history, as a set.
+#[derive(Drop)]
+pub struct History {
+    found: Visited,
+}
+
+impl History {
+    /// Whether the commit is one of them.
+    pub fn contains(&self, oid: &Oid) -> bool
+        ensures { IsTrue result ↔ HasCommit self.now.found oid.now }
+    {
+        self.found.contains(commit(*oid))
+    }
+}
+
+/// The history of a commit: the commits to which parent links alone lead from it, itself included.
+pub fn history_of<O: Objects>(
+    alloc: Global,
+    objects: &mut O,
+    new: &Oid,
+) -> Result<History, GetFault>
+    ensures told { ForSome (O.content objects.old) (λ m. IfOk result (λ history. (old : Oid)
+        → HasCommit history.found old ↔ InHistory m old new.now)) }
+    ensures kept { O.content objects.new ≡ O.content objects.old }
+    ensures beside { O.beside objects.new ≡ O.beside objects.old }
+    ensures cause { HasCause (O.content objects.old) (O.faults objects.old) (O.faults objects.new) result }
+{
+    let mut found = Visited::new(alloc);
+    found.add(commit(*new))?;
+    let mut i = 0;
+    while i < found.len() {
+        let pair = found.at(i);
+        follow_parents(alloc, objects, &mut found, pair)?;
+        i += 1;
+    }
+    Ok(History { found })
+}

@@ -1,0 +1,29 @@
+// Closure and history over Git objects.
+#![tactic(auto)]
+
+pub mod answer;
+mod chains;
+mod closing;
+mod fault;
+mod follow;
+mod held;
+mod history;
+mod look;
+mod memory;
+mod objects;
+mod plain;
+mod reaching;
+mod root;
+#[cfg(test)]
+mod tests;
+mod visited;
+
+pub use chains::{ChainFault, chain};
+pub use closing::{closure, lesser};
+pub use fault::{Changed, GetFault};
+pub use history::{History, history_of, in_history};
+pub use memory::MemObjects;
+pub use objects::Objects;
+pub use plain::closure_by_lists;
+pub use reaching::reached;
+pub use root::Root;

@@ -1,0 +1,78 @@
+// The names that are reached from some roots.
+ghost use Rattle.std.specs.Prelude.{◌≡◌, ◌≤◌, ◌↔◌, IsTrue, IfOk, OnOk, Contains, ◌⊎◌};
+ghost use Rattle.std.specs.Option.{ForSome};
+ghost use Rattle.std.specs.List.Sorted.{IsStrictlySortedBy};
+ghost use Rattle.std.specs.BTreeSet.{contains, IsOrdered};
+ghost use Rattle.rad_base.specs.Order.{oid_cmp};
+ghost use Rattle.commit_graph.specs.Faults.{HasCause};
+ghost use Rattle.commit_graph.specs.Closures.{IsReached, IsReachedName, HasName};
+
+use crate::follow::follow_links;
+use crate::visited::Visited;
+use crate::{GetFault, Objects, Root};
+use rad_base::{Oid, Oids};
+use std::alloc::{AllocError, Global};
+use std::collections::BTreeSet;
+
+/// The pairs that are reached, each once.
+fn walk<O: Objects>(alloc: Global, objects: &mut O, roots: &[Root]) -> Result<Visited, GetFault>
+    ensures told { ForSome (O.content objects.old) (λ m. IfOk result (λ found. (pair : Root)
+        → Contains found pair ↔ IsReached m roots.now pair)) }
+    ensures kept { O.content objects.new ≡ O.content objects.old }
+    ensures beside { O.beside objects.new ≡ O.beside objects.old }
+    ensures cause { HasCause (O.content objects.old) (O.faults objects.old) (O.faults objects.new) result }
+{
+    let mut found = Visited::new(alloc);
+    found.extend(roots)?;
+    let mut i = 0;
+    while i < found.len() {
+        let pair = found.at(i);
+        follow_links(alloc, objects, &mut found, pair)?;
+        i += 1;
+    }
+    Ok(found)
+}
+
+// Adds the names of the pairs.
+fn add_names(names: &mut BTreeSet<Oid>, pairs: &[Root]) -> Result<(), AllocError>
+    ensures { OnOk result ((oid : Oid) → IsTrue (contains oid_cmp names.new oid)
+        ↔ (IsTrue (contains oid_cmp names.old oid) ⊎ HasName pairs.now oid)) }
+{
+    for pair in pairs {
+        names.insert(pair.oid)?;
+    }
+    Ok(())
+}
+
+// The names of the set, rising.
+fn keys_of(alloc: Global, names: &BTreeSet<Oid>) -> Result<Vec<Oid>, AllocError>
+    ensures keys { IfOk result (λ list. list.items ≡ names.now.keys) }
+    ensures ordered { IsOrdered oid_cmp names.now }
+{
+    names.iter().copied().collect(alloc)
+}
+
+// The names of the pairs, rising.
+fn names_of(alloc: Global, pairs: &[Root]) -> Result<Vec<Oid>, AllocError>
+    ensures rising { IfOk result (λ list. IsStrictlySortedBy oid_cmp list.items) }
+    ensures names { IfOk result (λ list. (oid : Oid) → Contains list.items oid ↔ HasName pairs.now oid) }
+{
+    let mut names = BTreeSet::new(alloc);
+    add_names(&mut names, pairs)?;
+    let list = keys_of(alloc, &names)?;
+    Ok(list)
+}
+
+/// The names that are reached from the roots, rising, each once, also those without an object.
+pub fn reached<O: Objects>(alloc: Global, objects: &mut O, roots: &[Root]) -> Result<Oids, GetFault>
+    ensures rising { IfOk result (IsStrictlySortedBy oid_cmp) }
+    ensures told { ForSome (O.content objects.old) (λ m. IfOk result (λ names. (oid : Oid) → Contains names oid
+        ↔ IsReachedName m roots.now oid)) }
+    ensures kept { O.content objects.new ≡ O.content objects.old }
+    ensures beside { O.beside objects.new ≡ O.beside objects.old }
+    ensures cause { HasCause (O.content objects.old) (O.faults objects.old) (O.faults objects.new) result }
+{
+    let found = walk(alloc, objects, roots)?;
+    let names = names_of(alloc, found.as_slice())?;
+    Ok(Oids::of(names))
+}
