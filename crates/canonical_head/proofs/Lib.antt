@@ -1,0 +1,5 @@
+pub mod Candidates
+pub mod Comparing
+pub mod Counts
+pub mod LeastNames
+pub mod Rows

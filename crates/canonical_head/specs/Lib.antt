@@ -1,0 +1,4 @@
+pub mod Divergence
+pub mod Heads
+pub mod Least
+pub mod Tables

@@ -1,0 +1,45 @@
+// As many tips as there can be, over a long history.
+use crate::answer::Head;
+use crate::head;
+use commit_graph::MemObjects;
+use git_object::Kind;
+use rad_base::{NoMemory, Oid};
+use std::alloc::Global;
+use std::test::Fail;
+
+const EMPTY_TREE: &[u8] = b"tree 4b825dc642cb6eb9a060e54bf8d69288fbee4904\n";
+
+fn commit(alloc: Global, parent: Option<Oid>) -> Result<Vec<u8>, NoMemory> {
+    let mut bytes = Vec::from_slice(alloc, EMPTY_TREE)?;
+    if let Some(parent) = parent {
+        bytes.extend_from_slice(b"parent ")?;
+        bytes.extend_from_slice(parent.text(alloc)?.as_slice())?;
+        bytes.push(b'\n')?;
+    }
+    bytes.extend_from_slice(b"author a")?;
+    Ok(bytes)
+}
+
+// A chain of commits, and the last of them, from the last but 254.
+fn chain_of(alloc: Global, length: usize) -> Result<(MemObjects, Vec<Oid>), NoMemory> {
+    let mut objects = MemObjects::new(alloc);
+    let mut tips = Vec::new(alloc);
+    let mut parent = None;
+    for i in 0..length {
+        let oid = objects.put(alloc, Kind::Commit, &commit(alloc, parent)?)?;
+        parent = Some(oid);
+        if length.saturating_sub(i) <= 255 {
+            tips.push(oid)?;
+        }
+    }
+    Ok((objects, tips))
+}
+
+#[test]
+fn as_many_tips_as_there_can_be(rt: HostRuntime) -> Result<(), Fail> {
+    let (mut objects, tips) = chain_of(rt.alloc(), 20_000)?;
+    assert_eq!(rt; tips.len(), 255);
+    let found = head(rt.alloc(), &mut objects, &tips, 128)?;
+    assert_eq!(rt; Some(found), tips.get(127).copied().map(Head::At));
+    Ok(())
+}
