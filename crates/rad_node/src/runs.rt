@@ -148,7 +148,7 @@ fn a_failing_call_is_told(rt: HostRuntime) -> Result<(), Fail> {
 #[test]
 fn a_failing_disk_leaves_a_front_of_the_entries(rt: HostRuntime) -> Result<(), Fail> {
     let alloc = rt.alloc();
-    let mut failed = 0;
+    let mut failed = 0_u32;
     for call in 0..64 {
         let left = run(
             alloc,
@@ -165,7 +165,7 @@ fn a_failing_disk_leaves_a_front_of_the_entries(rt: HostRuntime) -> Result<(), F
         assert!(rt; left.report.is_empty());
         let end = end_of(alloc, &left.store)?;
         assert_eq!(rt; left.store.get(..end), JOURNAL.get(..end), "at call {call}");
-        failed += 1;
+        failed = failed.saturating_add(1);
     }
     assert_eq!(rt; failed, 20);
     Ok(())
