@@ -1,7 +1,7 @@
 // Histories with their tips, and the head.
 use super::heads_of_git::{Case, Wanted};
 
-pub(crate) const CASES: [Case; 24] = [
+pub(crate) const CASES: [Case; 30] = [
     Case {
         commits: &[],
         tips: &[],
@@ -208,6 +208,65 @@ pub(crate) const CASES: [Case; 24] = [
         commits: &[],
         tips: &[],
         threshold: 1,
+        head: Wanted::NoQuorum,
+    },
+    // Three tips in a line, the first the oldest, at each threshold.
+    Case {
+        commits: &[
+            b"4b825dc642cb6eb9a060e54bf8d69288fbee4904\n~a\n",
+            b"4b825dc642cb6eb9a060e54bf8d69288fbee4904\nparent #A\n~b\n",
+            b"4b825dc642cb6eb9a060e54bf8d69288fbee4904\nparent #B\n~c\n",
+        ],
+        tips: &[0, 1, 2],
+        threshold: 1,
+        head: Wanted::At(2),
+    },
+    Case {
+        commits: &[
+            b"4b825dc642cb6eb9a060e54bf8d69288fbee4904\n~a\n",
+            b"4b825dc642cb6eb9a060e54bf8d69288fbee4904\nparent #A\n~b\n",
+            b"4b825dc642cb6eb9a060e54bf8d69288fbee4904\nparent #B\n~c\n",
+        ],
+        tips: &[0, 1, 2],
+        threshold: 2,
+        head: Wanted::At(1),
+    },
+    Case {
+        commits: &[
+            b"4b825dc642cb6eb9a060e54bf8d69288fbee4904\n~a\n",
+            b"4b825dc642cb6eb9a060e54bf8d69288fbee4904\nparent #A\n~b\n",
+            b"4b825dc642cb6eb9a060e54bf8d69288fbee4904\nparent #B\n~c\n",
+        ],
+        tips: &[0, 1, 2],
+        threshold: 3,
+        head: Wanted::At(0),
+    },
+    // Tips beside each other, and one tip where two are wanted.
+    Case {
+        commits: &[
+            b"4b825dc642cb6eb9a060e54bf8d69288fbee4904\n~x\n",
+            b"4b825dc642cb6eb9a060e54bf8d69288fbee4904\n~y\n",
+        ],
+        tips: &[0, 0, 1],
+        threshold: 2,
+        head: Wanted::At(0),
+    },
+    Case {
+        commits: &[
+            b"4b825dc642cb6eb9a060e54bf8d69288fbee4904\n~x\n",
+            b"4b825dc642cb6eb9a060e54bf8d69288fbee4904\n~y\n",
+        ],
+        tips: &[0, 0, 1, 1],
+        threshold: 2,
+        head: Wanted::Diverging(1, 0),
+    },
+    Case {
+        commits: &[
+            b"4b825dc642cb6eb9a060e54bf8d69288fbee4904\n~x\n",
+            b"4b825dc642cb6eb9a060e54bf8d69288fbee4904\n~y\n",
+        ],
+        tips: &[0],
+        threshold: 2,
         head: Wanted::NoQuorum,
     },
 ];
