@@ -1,15 +1,12 @@
 -- Why an object could not be had.
-use Rattle.std.specs.Prelude.{◌≡◌, ℕ, ◌+◌, ◌-◌, ◌^◌, ◌≤◌, min, List, Option, None, Result, IfErr}
+use Rattle.std.specs.Prelude.{◌≡◌, ℕ, ◌≤◌, List, Option, None, Result, IfErr}
+use Rattle.rad_base.specs.Faults.{Rose}
 use Rattle.git_object.specs.declared.kind.Kind.{Kind}
 use Rattle.git_object.specs.Names.{name}
 use Rattle.commit_graph.specs.declared.fault.Changed.{Changed}
 use Rattle.commit_graph.specs.declared.fault.GetFault.{GetFault}
 use Rattle.commit_graph.specs.declared.fault.GetFault.TheVariants as fault
 use Rattle.commit_graph.specs.Objects.{ObjectMap}
-
--- a count of faults rose, or stands at its end
-abbrev pub Rose : ℕ → ℕ → Type 0
-Rose before now = min (before + 1) (2 ^ 64 - 1) ≤ now
 
 -- what was read back has another name than the one it is held under, and no map was told
 pub record IsChange (content : Option ObjectMap) (change : Changed) : Type 0 where

@@ -1,6 +1,6 @@
 -- What opening a store without entries answers, and what appending to it makes of it.
 use Rattle.std.specs.Prelude.{ℕ, List, [], ◌++◌, Option, Result, Ok, Err}
-use Rattle.rad_outside.specs.Causes.{Rose}
+use Rattle.rad_base.specs.Faults.{Rose}
 use Rattle.ref_journal.specs.Holds.{Holds}
 use Rattle.ref_journal.specs.Moments.{HasBodies}
 use Rattle.ref_journal.specs.declared.journal.Journal.{Journal}

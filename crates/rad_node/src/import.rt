@@ -1,7 +1,7 @@
 // The import of a bundle into a store without entries.
 ghost use Rattle.std.specs.Prelude.{◌≡◌, ◌≤◌, length, IfSome};
 ghost use Rattle.std.specs.Io.KnownBytes.{Appends, Keeps};
-ghost use Rattle.rad_outside.specs.Causes.{Rose};
+ghost use Rattle.rad_base.specs.Faults.{Rose};
 ghost use Rattle.rad_node.specs.Form.{FormOne, IsFormOne};
 ghost use Rattle.rad_node.specs.Imports.{Entered, HasEntered, IsCaused, IsEnd, IsSilent, IsUntouched};
 ghost use Rattle.rad_node.specs.Store.{Grows};

@@ -1,7 +1,7 @@
 // The run of a command over what it is handed.
 ghost use Rattle.std.specs.Prelude.{◌≡◌};
 ghost use Rattle.std.specs.Io.KnownBytes.{Appends, Keeps};
-ghost use Rattle.rad_outside.specs.Causes.{Rose};
+ghost use Rattle.rad_base.specs.Faults.{Rose};
 ghost use Rattle.rad_node.specs.Imports.{Imported, IsCaused, IsNoForm, IsSilent, IsUntouched};
 ghost use Rattle.rad_node.specs.Transfers.{AppendsFront};
 

@@ -1,7 +1,8 @@
 // Whole files from sources, and whole texts to sinks.
 ghost use Rattle.std.specs.Prelude.{◌≡◌, ◌≤◌, ◌<◌, length, IfOk, IfSome, OnOk, IsErrOf};
 ghost use Rattle.std.specs.Io.KnownBytes.{Appends, IsAtEnd};
-ghost use Rattle.rad_outside.specs.Causes.{HasCause, Rose};
+ghost use Rattle.rad_base.specs.Faults.{Rose};
+ghost use Rattle.rad_outside.specs.Causes.{HasCause};
 ghost use Rattle.rad_node.specs.Transfers.{AppendsFront, Took};
 ghost use Rattle.rad_node.specs.declared.transfer.ReadFault.TheVariants.{NoMemory as OutOfMemory};
 

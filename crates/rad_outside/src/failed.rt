@@ -1,6 +1,6 @@
 // The refusal of a call that reaches outside, and the count of such refusals.
 ghost use Rattle.std.specs.Prelude.{◌≤◌};
-ghost use Rattle.rad_outside.specs.Causes.{Rose};
+ghost use Rattle.rad_base.specs.Faults.{Rose};
 
 /// The thing outside failed: a file, a stream or a link.
 #[derive(Clone, Copy, Debug, PartialEq, Eq)]

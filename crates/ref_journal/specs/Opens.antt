@@ -1,6 +1,6 @@
 -- What opening a journal answers.
 use Rattle.std.specs.Prelude.{ℕ, List, Option, Result, Ok, Err}
-use Rattle.rad_outside.specs.Causes.{Rose}
+use Rattle.rad_base.specs.Faults.{Rose}
 use Rattle.rad_outside.specs.Disks.{Only}
 use Rattle.ref_journal.specs.Holds.{Holds}
 use Rattle.ref_journal.specs.Images.{IsDamagedAt, IsJournal, IsUnmade}

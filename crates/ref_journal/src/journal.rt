@@ -1,6 +1,6 @@
 // The journal with the disk that it holds.
 ghost use Rattle.std.specs.Prelude.{◌≡◌, ◌↔◌, ◌≤◌, ◌<◌, ◌^◌, ◌+◌, ◌++◌, ◌∷◌, [], if◌then◌else◌, length, List, ℕ, Some, is_ok, IfErr, IfNone, IfOk, IfSome, IsErrOf, IsNone, OnOk};
-ghost use Rattle.rad_outside.specs.Causes.{Rose};
+ghost use Rattle.rad_base.specs.Faults.{Rose};
 ghost use Rattle.ref_journal.specs.Frames.{gate_behind};
 ghost use Rattle.ref_journal.specs.Moments.{HasBodiesOrOneMore};
 

@@ -1,6 +1,7 @@
 // The record behind a gate: a write that lasts, and the body that is read.
 ghost use Rattle.std.specs.Prelude.{◌≡◌, ◌≤◌, ◌<◌, ◌+◌, ◌^◌, List, ℕ, length, IfOk, IfSome, IsErrOf, OnOk};
-ghost use Rattle.rad_outside.specs.Causes.{HasCause, Rose};
+ghost use Rattle.rad_base.specs.Faults.{Rose};
+ghost use Rattle.rad_outside.specs.Causes.{HasCause};
 ghost use Rattle.rad_outside.specs.Disks.{Changes};
 ghost use Rattle.ref_journal.specs.Gates.{HasBody};
 ghost use Rattle.ref_journal.specs.Holds.{OnlyReads};
