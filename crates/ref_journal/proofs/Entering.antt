@@ -8,7 +8,7 @@ use Rattle.ref_journal.specs.Images.{Begins, IsJournal}
 use Rattle.ref_journal.specs.Moments.{HasBodies, HasBodiesOrOneMore}
 use Rattle.ref_journal.proofs.Records.{bodies-push, text-push}
 
--- the place is the end, so a front of it is the records
+-- the place is the end, so a prefix of it is the records
 pub front_of : (bodies : List (List ℕ)) (place : ℕ) (rest bytes : List ℕ) → Begins bodies place rest bytes → take place bytes ≡ header ++ records bodies
 front_of bodies place rest bytes b = ap (take place) b.text ∙ take_at (header ++ records bodies) rest place (sym b.place_is)
 

@@ -1,7 +1,7 @@
 pub mod Appending
+pub mod EightBytes
 pub mod Entering
 pub mod Framing
-pub mod Fronts
 pub mod Gates
 pub mod Holding
 pub mod OneReading

@@ -3,7 +3,8 @@ use Rattle.std.proofs.Common.{◌≡◌, ℕ, ◌+◌, List, [], ◌∷◌, ◌+
 use Rattle.std.proofs.lemmas.List.{append-nil}
 use Rattle.std.specs.Int.{to_be_bytes, w64}
 use Rattle.ref_journal.specs.Frames.{AreBodies, IsBody, header, record_of, records}
-use Rattle.ref_journal.proofs.Fronts.{length-to_be_bytes_8, one_number, same_fronts}
+use Rattle.rad_base.proofs.OneFront.{one_front}
+use Rattle.ref_journal.proofs.EightBytes.{length-to_be_bytes_8, one_number}
 
 -- a record, front by front
 pub record_parts : (long body rest : List ℕ) → (1 ∷ (long ++ body)) ++ rest ≡ (1 ∷ long) ++ (body ++ rest)
@@ -20,9 +21,9 @@ one_record c d x y small smaller e =
     let other = to_be_bytes w64 (length d) in
     let whole : (1 ∷ long) ++ (c ++ x) ≡ (1 ∷ other) ++ (d ++ y) = sym (record_parts long c x) ∙ e ∙ record_parts other d y in
     let nine : length (1 ∷ long) ≡ length (1 ∷ other) = omega (arith, length-to_be_bytes_8 (length c), length-to_be_bytes_8 (length d)) in
-    let both = same_fronts (1 ∷ long) (1 ∷ other) (c ++ x) (d ++ y) nine whole in
+    let both = one_front (1 ∷ long) (1 ∷ other) (c ++ x) (d ++ y) nine whole in
     let size : length c ≡ length d = one_number (length c) (length d) (omega (arith, small)) (omega (arith, smaller)) (ap (drop 1) both.0) in
-    same_fronts c d x y size both.1
+    one_front c d x y size both.1
 
 -- one more record
 pub records-push : (bodies : List (List ℕ)) (body : List ℕ) → records (bodies ++ body ∷ []) ≡ records bodies ++ record_of body

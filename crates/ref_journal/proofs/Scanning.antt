@@ -8,7 +8,7 @@ use Rattle.rad_outside.specs.Disks.{ReadsAt}
 use Rattle.ref_journal.specs.Frames.{gate_behind, header, record_of, records}
 use Rattle.ref_journal.specs.Images.{IsJournal}
 use Rattle.ref_journal.specs.Gates.{HasBody, IsNumberAt}
-use Rattle.ref_journal.proofs.Fronts.{length-to_be_bytes_8, one_number}
+use Rattle.ref_journal.proofs.EightBytes.{length-to_be_bytes_8, one_number}
 use Rattle.ref_journal.proofs.Records.{body_among, length-record_of, record_parts, records-append, text-push}
 
 -- the disk has the whole record
