@@ -9,6 +9,6 @@ pub record Took (old new : Option (List ℕ)) (before after : List ℕ) (n : ℕ
   pub consumed : Consumes old new bytes
   pub added : after ≡ before ++ bytes
 
--- a front of these bytes was given
+-- a prefix of these bytes was given
 abbrev pub AppendsFront : Option (List ℕ) → Option (List ℕ) → List ℕ → Type 0
 AppendsFront old new bytes = (front : List ℕ) × (rest : List ℕ) × (bytes ≡ front ++ rest) × Appends old new front

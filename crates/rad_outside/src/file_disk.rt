@@ -1,4 +1,4 @@
-// A file as a disk: the trusted edge. It tells nothing of content.
+// A file as a disk: a trusted adapter. It tells nothing of content.
 ghost use Rattle.std.specs.Prelude.{◌≡◌, None, ⊤};
 
 use crate::failed::count_fault;

@@ -1,4 +1,4 @@
-// A file that is read: the trusted edge. It tells nothing of content.
+// A file that is read: a trusted adapter. It tells nothing of content.
 ghost use Rattle.std.specs.Prelude.{◌≡◌, ◌≤◌, length, None, IfOk};
 
 use crate::failed::count_fault;

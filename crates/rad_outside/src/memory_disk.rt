@@ -1,7 +1,9 @@
 // A disk in memory, whose calls fail where a list says so. It keeps every call.
-ghost use Rattle.std.specs.Prelude.{◌≡◌, ◌≤◌, ◌↔◌, Some, false, length, IsOk, OnOk, OnErr};
+ghost use Rattle.std.specs.Prelude.{◌≡◌, ◌≤◌, ◌↔◌, Some, false, length, IsTrue, IsOk, IfOk, OnOk, OnErr};
+ghost use Rattle.std.specs.Io.{ReadsAtMost};
 ghost use Rattle.rad_outside.specs.Causes.{HasCause};
-ghost use Rattle.rad_outside.specs.Disks.{Only, ReadsAt};
+ghost use Rattle.rad_outside.specs.FailingCalls.{FailsNext, HadCall};
+ghost use Rattle.rad_outside.specs.Disks.{Changes, Elapses, Follows, Only, ReadsAt, Torn, Within, Writes};
 ghost use Rattle.rad_outside.specs.MemoryDisk.{IsImage};
 ghost use Rattle.rad_outside.specs.MemoryDiskLaws.{reads_is_image};
 ghost use Rattle.rad_outside.specs.MemoryDiskClock.{since_counts_now, since_only_now};
@@ -22,7 +24,6 @@ pub struct MemDisk {
 }
 
 impl MemDisk {
-    ghost use Rattle.rad_outside.specs.FailingCalls.{one_later};
     ghost use Rattle.rad_outside.specs.MemDisk.{fails_of};
 
     /// A disk with these bytes, all of them synced. The calls that `fails` lists, counted from 0,
@@ -47,28 +48,32 @@ impl MemDisk {
         self.log.bytes()
     }
 
-    // Counts a call that was kept. One that was not, or that is to fail, is a fault.
+    // Counts a call that was kept, or that is to fail. One that was not kept, or that is to fail,
+    // is a fault.
     fn end_call(&mut self, kept: Result<(), AllocError>, to_fail: bool) -> Result<(), Failed>
         ensures ok { IsOk result ↔ (IsOk kept × (to_fail ≡ false)) }
-        ensures counted { OnOk kept (self.new.fails ≡ one_later self.old.fails) }
-        ensures uncounted { OnErr kept (self.new.fails ≡ self.old.fails) }
+        ensures calls { (IsTrue to_fail ↔ FailsNext self.old.fails)
+            → HadCall self.old.fails self.new.fails result }
         ensures cause { HasCause self.old.faults self.new.faults result }
         ensures log { self.new.log ≡ self.old.log }
     {
+        if to_fail {
+            self.fails.count_call();
+            count_fault(&mut self.faults);
+            return Err(Failed);
+        }
         if kept.is_err() {
             count_fault(&mut self.faults);
             return Err(Failed);
         }
         self.fails.count_call();
-        if to_fail {
-            count_fault(&mut self.faults);
-            return Err(Failed);
-        }
         Ok(())
     }
 }
 
 impl Disk for MemDisk {
+    ghost use Rattle.rad_outside.specs.MemDisk.{fails_of};
+
     ghost reads_as = { λ d. Some (state_of d.log).reads };
 
     ghost images = { λ d. IsImage (state_of d.log) };
@@ -88,27 +93,64 @@ impl Disk for MemDisk {
 
     ghost reads_image = { λ d. reads_is_image d.log.first.items d.log.calls.items };
 
-    fn size(&mut self) -> Result<u64, Failed> {
+    fn size(&mut self) -> Result<u64, Failed>
+        ensures value { IfOk result (λ n. n ≡ length (state_of self.old.log).reads) }
+        ensures same { (state_of self.new.log).reads ≡ (state_of self.old.log).reads }
+        ensures images { Within (IsImage (state_of self.new.log)) (IsImage (state_of self.old.log)) }
+        ensures cause { HasCause self.old.faults self.new.faults result }
+        ensures time { Elapses (moment_of self.old.log) (moment_of self.new.log)
+            (since_of self.old.log) (since_of self.new.log) (IsImage (state_of self.new.log)) }
+        ensures calls { HadCall (fails_of self.old) (fails_of self.new) result }
+    {
         let to_fail = self.fails.fails_next();
         let kept = self.log.look();
         self.end_call(kept, to_fail)?;
         Ok(self.bytes().len() as u64)
     }
 
-    fn read_at(&mut self, place: u64, into: &mut [u8]) -> Result<usize, Failed> {
+    fn read_at(&mut self, place: u64, into: &mut [u8]) -> Result<usize, Failed>
+        ensures bound { ReadsAtMost result into.new }
+        ensures value { IfOk result (ReadsAt (state_of self.old.log).reads place into.new) }
+        ensures same { (state_of self.new.log).reads ≡ (state_of self.old.log).reads }
+        ensures images { Within (IsImage (state_of self.new.log)) (IsImage (state_of self.old.log)) }
+        ensures cause { HasCause self.old.faults self.new.faults result }
+        ensures time { Elapses (moment_of self.old.log) (moment_of self.new.log)
+            (since_of self.old.log) (since_of self.new.log) (IsImage (state_of self.new.log)) }
+        ensures calls { HadCall (fails_of self.old) (fails_of self.new) result }
+    {
         let to_fail = self.fails.fails_next();
         let kept = self.log.look();
         self.end_call(kept, to_fail)?;
         Ok(copy_from(self.bytes(), place, into))
     }
 
-    fn write_at(&mut self, place: u64, bytes: &[u8]) -> Result<(), Failed> {
+    fn write_at(&mut self, place: u64, bytes: &[u8]) -> Result<(), Failed>
+        ensures written { OnOk result (Changes (Writes place bytes.now)
+            (Some (state_of self.old.log).reads) (Some (state_of self.new.log).reads)) }
+        ensures broken { OnErr result (Torn place (length bytes.now)
+            (state_of self.old.log).reads (state_of self.new.log).reads) }
+        ensures images { Follows (Torn place (length bytes.now))
+            (IsImage (state_of self.old.log)) (IsImage (state_of self.new.log)) }
+        ensures cause { HasCause self.old.faults self.new.faults result }
+        ensures time { Elapses (moment_of self.old.log) (moment_of self.new.log)
+            (since_of self.old.log) (since_of self.new.log) (IsImage (state_of self.new.log)) }
+        ensures calls { HadCall (fails_of self.old) (fails_of self.new) result }
+    {
         let to_fail = self.fails.fails_next();
         let kept = self.log.write(place, bytes, to_fail);
         self.end_call(kept, to_fail)
     }
 
-    fn sync(&mut self) -> Result<(), Failed> {
+    fn sync(&mut self) -> Result<(), Failed>
+        ensures durable { OnOk result
+            (Only (state_of self.old.log).reads (IsImage (state_of self.new.log))) }
+        ensures same { (state_of self.new.log).reads ≡ (state_of self.old.log).reads }
+        ensures images { Within (IsImage (state_of self.new.log)) (IsImage (state_of self.old.log)) }
+        ensures cause { HasCause self.old.faults self.new.faults result }
+        ensures time { Elapses (moment_of self.old.log) (moment_of self.new.log)
+            (since_of self.old.log) (since_of self.new.log) (IsImage (state_of self.new.log)) }
+        ensures calls { HadCall (fails_of self.old) (fails_of self.new) result }
+    {
         let to_fail = self.fails.fails_next();
         let kept = self.log.sync(to_fail);
         self.end_call(kept, to_fail)

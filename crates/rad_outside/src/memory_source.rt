@@ -48,7 +48,7 @@ impl MemSource {
     }
 }
 
-// Copies a front of what is left, at most `piece` bytes of it.
+// Copies a prefix of what is left, at most `piece` bytes of it.
 fn copy_front(left: &[u8], piece: usize, into: &mut [u8]) -> usize
     requires { 0 < piece }
     ensures room { result ≤ length into.old }

@@ -16,7 +16,7 @@ pub trait Sink {
     /// Which loan it is, where it is a borrow. No call changes it.
     ghost loan: { Self → ℕ };
 
-    /// Gives a front of the piece, and answers how many bytes that were. Of a piece that is not
+    /// Gives a prefix of the piece, and answers how many bytes that were. Of a piece that is not
     /// empty it gives some byte or fails. A give that failed leaves what was given.
     fn give(&mut self, from: &[u8]) -> Result<usize, Failed>
         ensures bound { IfOk result (λ n. n ≤ length from.now) }

@@ -17,7 +17,7 @@ pub trait Source {
     /// Which loan it is, where it is a borrow. No call changes it.
     ghost loan: { Self → ℕ };
 
-    /// Puts a front of what is left into the front of `into` and takes it off. It answers how many
+    /// Puts a prefix of what is left into the front of `into` and takes it off. It answers how many
     /// bytes that were: 0 for a buffer that is not empty is the end. A take that failed leaves what
     /// is left, and says nothing of the buffer.
     fn take(&mut self, into: &mut [u8]) -> Result<usize, Failed>

@@ -1,4 +1,4 @@
-// Standard output: the trusted edge. It tells nothing of content.
+// Standard output: a trusted adapter. It tells nothing of content.
 ghost use Rattle.std.specs.Prelude.{◌≡◌, None};
 
 use crate::failed::count_fault;
