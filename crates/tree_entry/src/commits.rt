@@ -1,0 +1,69 @@
+// Commits, and the entries of their trees.
+ghost use Rattle.std.specs.Prelude.{◌≡◌, ◌≤◌, IfOk};
+ghost use Rattle.std.specs.Option.{ForSome};
+ghost use Rattle.commit_graph.specs.Faults.{HasCause};
+ghost use Rattle.tree_entry.specs.Entries.{Finds, HasCommitEntry};
+ghost use Rattle.tree_entry.specs.Commits.{Shows, Reads};
+
+use crate::find_entry;
+use commit_graph::{GetFault, Objects};
+use git_object::{Kind, read_commit};
+use rad_base::Oid;
+
+/// The tree of a commit, and whether the commit has a parent.
+#[derive(Clone, Copy, Debug, PartialEq, Eq)]
+pub struct CommitTree {
+    /// The name of the tree.
+    pub tree: Oid,
+    /// Whether there is a parent.
+    pub has_parent: bool,
+}
+
+fn tree_in(bytes: &[u8]) -> Option<CommitTree>
+    ensures { Reads bytes.now result }
+{
+    let Ok(parts) = read_commit(bytes) else {
+        return None;
+    };
+    let mut parents = parts.parents;
+    Some(CommitTree {
+        tree: parts.tree,
+        has_parent: parents.next().is_some(),
+    })
+}
+
+/// The tree of a commit. None where the commit is not there, is of another kind or not in its
+/// grammar.
+pub fn commit_tree<O: Objects>(objects: &mut O, oid: &Oid) -> Result<Option<CommitTree>, GetFault>
+    ensures told { ForSome (O.content objects.old) (λ m. IfOk result (Shows m oid.now)) }
+    ensures kept { O.content objects.new ≡ O.content objects.old }
+    ensures beside { O.beside objects.new ≡ O.beside objects.old }
+    ensures cause { HasCause (O.content objects.old) (O.faults objects.old) (O.faults objects.new) result }
+{
+    match objects.get(oid) {
+        Err(fault) => Err(fault),
+        Ok(Some((Kind::Commit, bytes))) => Ok(tree_in(bytes)),
+        Ok(_) => Ok(None),
+    }
+}
+
+/// The object that an entry of a commit's tree links to, as `find_entry` finds it. None also where
+/// the commit is not there, is of another kind or not in its grammar.
+pub fn commit_entry<O: Objects>(
+    objects: &mut O,
+    oid: &Oid,
+    kind: Kind,
+    name: &[u8],
+) -> Result<Option<Oid>, GetFault>
+    ensures told { ForSome (O.content objects.old)
+        (λ m. IfOk result (Finds (HasCommitEntry m oid.now kind name.now))) }
+    ensures kept { O.content objects.new ≡ O.content objects.old }
+    ensures beside { O.beside objects.new ≡ O.beside objects.old }
+    ensures cause { HasCause (O.content objects.old) (O.faults objects.old) (O.faults objects.new) result }
+{
+    let Some(found) = commit_tree(objects, oid)? else {
+        return Ok(None);
+    };
+    let entry = find_entry(objects, &found.tree, kind, name)?;
+    Ok(entry)
+}
