@@ -1,13 +1,13 @@
 -- Marks beside a list without repeats.
-use Rattle.std.proofs.Common.{◌≡◌, Bool, true, false, cond, ◌||◌, List, [], ◌∷◌, ◌++◌, refl, sym, ap, subst, inl, inr, ◌∙◌}
-use Rattle.std.specs.Prelude.{Contains, ◌↔◌}
+use Rattle.std.proofs.Common.{◌≡◌, Bool, true, false, cond, ◌||◌, List, [], ◌∷◌, ◌++◌, refl, sym, ap, subst, inl, inr, ⊎_elim, ◌∙◌}
+use Rattle.std.specs.Prelude.{Contains, not, ◌↔◌}
 use Rattle.std.specs.declared.cmp.Ordering.{Ordering}
 use Rattle.std.specs.Ordering.{eq_by_cmp}
 use Rattle.std.specs.Cmp.{IsTotalOrder}
 use Rattle.std.proofs.lemmas.Cmp.{eq_by_cmp_equiv}
 use Rattle.std.specs.List.{list_any, IsDistinct}
 use Rattle.std.specs.BTreeSet.{BTreeSet, contains, Updates, IsEmpty}
-use Rattle.std.proofs.lemmas.Bool.{false≢true}
+use Rattle.std.proofs.lemmas.Bool.{cases_Bool, false≢true}
 use Rattle.std.proofs.lemmas.List.Folds.{list_any-append}
 use Rattle.std.proofs.lemmas.Map.Keys.{IsDistinct-push}
 use Rattle.std.proofs.lemmas.Map.Lookups.{CmpEqualImpliesEq}
@@ -38,6 +38,29 @@ marked_push {X} {cmp} o marks marks' items x u fresh h = record {
       ∙ sym (list_any-append (eq_by_cmp cmp q) items (x ∷ []));
   distinct = IsDistinct-push (eq_by_cmp_equiv o) items x h.distinct (sym (h.same x) ∙ fresh);
 }
+
+-- a mark that was new and was taken back leaves the marks as they were
+pub marked_back : {X : Type 0} {cmp : X → X → Ordering} → CmpEqualImpliesEq cmp
+    → (marks marks' marks'' : BTreeSet X) (items : List X) (x : X) → Updates cmp marks marks' x true
+    → Updates cmp marks' marks'' x false → contains cmp marks x ≡ false → IsMarked cmp marks items
+    → IsMarked cmp marks'' items
+marked_back {X} {cmp} exact marks marks' marks'' items x u v fresh h = record {
+  same = λ q. v.0 q ∙ ⊎_elim
+      (λ b. ap (λ (t : Bool). cond t false (contains cmp marks' q)) b ∙ sym fresh ∙ ap (contains cmp marks) (tells_apart exact x q b) ∙ h.same q)
+      (λ b. ap (λ (t : Bool). cond t false (contains cmp marks' q)) b ∙ u.0 q ∙ ap (λ (t : Bool). cond t true (contains cmp marks q)) b ∙ h.same q)
+      (cases_Bool (eq_by_cmp cmp x q));
+  distinct = h.distinct;
+}
+
+-- what was not added anew was there
+pub not_new : (there added : Bool) → added ≡ not there → added ≡ false → there ≡ true
+not_new true added e f = refl
+not_new false added e f = cc (e, f)
+
+-- what was added anew was not there
+pub new_fresh : (there added : Bool) → added ≡ not there → added ≡ true → there ≡ false
+new_fresh true added e f = cc (e, f)
+new_fresh false added e f = refl
 
 pub marked_has : {X : Type 0} {cmp : X → X → Ordering} → CmpEqualImpliesEq cmp
     → (marks : BTreeSet X) (items : List X) (x : X) → contains cmp marks x ≡ true

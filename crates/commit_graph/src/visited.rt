@@ -58,14 +58,13 @@ impl Visited {
         ensures err { OnErr result (self.new ≡ self.old) }
         ensures few { length self.new < 2 ^ 64 }
     {
-        if self.marks.contains(&pair) {
+        if !self.marks.insert(pair)? {
             return Ok(());
         }
-        self.queue.push(pair)?;
-        match self.marks.insert(pair) {
-            Ok(_) => Ok(()),
+        match self.queue.push(pair) {
+            Ok(()) => Ok(()),
             Err(_) => {
-                self.queue.pop();
+                self.marks.remove(&pair);
                 Err(AllocError)
             }
         }
