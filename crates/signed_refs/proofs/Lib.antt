@@ -1,0 +1,4 @@
+pub mod Compared
+pub mod OneLine
+pub mod OneName
+pub mod Spelled

@@ -1,0 +1,68 @@
+-- Lines and their bytes, a line at a time.
+use Rattle.std.proofs.Common.{◌≡◌, ℕ, ◌+◌, ◌<◌, ◌≤◌, List, [], ◌∷◌, ◌++◌, length, Option, None, Some, refl, sym, ap, subst, ◌∙◌, arith, append_assoc, length-append}
+use Rattle.std.specs.List.{AllByRecursion}
+use Rattle.std.proofs.lemmas.List.{append-nil}
+use Rattle.std.proofs.lemmas.Grind.{flat_map-append}
+use Rattle.hex.specs.Hex.{encode_lower}
+use Rattle.git_object.specs.Grammar.{IsBelow}
+use Rattle.signed_refs.specs.Lines.{IsLine, Line, RiseFrom, SpellsRefs, SpellsTo, last_from, line_text, refs_text}
+use Rattle.signed_refs.specs.Readings.{BreaksAt, Continues, HasTooMany}
+
+-- one more line behind others
+pub text_more : (lines : List Line) (line : Line) → refs_text (lines ++ line ∷ []) ≡ refs_text lines ++ line_text line
+text_more lines line =
+    flat_map-append line_text lines (line ∷ []) ∙ ap (λ (l : List ℕ). refs_text lines ++ l) (append-nil (line_text line))
+
+each_more : (lines : List Line) (line : Line) → AllByRecursion IsLine lines → IsLine line → AllByRecursion IsLine (lines ++ line ∷ [])
+each_more [] line each is = (is, tt)
+each_more (x ∷ lines) line each is = (each.0, each_more lines line each.1 is)
+
+-- a name above the last keeps the order
+pub rise_more : (before : Option (List ℕ)) (lines : List Line) (line : Line) → RiseFrom before lines → IsBelow (last_from before lines) line.0
+    → RiseFrom before (lines ++ line ∷ [])
+rise_more before [] line rising above = (above, tt)
+rise_more before (x ∷ lines) line rising above = (rising.0, rise_more (Some x.0) lines line rising.1 above)
+
+-- at the start nothing was read
+pub spelled_none : (bytes : List ℕ) → SpellsTo [] bytes bytes
+spelled_none bytes = record { each = tt; rising = tt; text = refl }
+
+-- one more line was read
+pub spelled_more : (lines : List Line) (line : Line) (behind rest bytes : List ℕ) → SpellsTo lines rest bytes → Continues lines line behind rest
+    → SpellsTo (lines ++ line ∷ []) behind bytes
+spelled_more lines line behind rest bytes s c = record {
+  each = each_more lines line s.each c.good;
+  rising = rise_more None lines line s.rising c.above;
+  text =
+      s.text ∙ ap (λ (l : List ℕ). refs_text lines ++ l) c.text ∙ sym (append_assoc (refs_text lines) (line_text line) behind)
+      ∙ ap (λ (l : List ℕ). l ++ behind) (sym (text_more lines line));
+}
+
+-- in the end all was read
+pub spelled_all : (lines : List Line) (rest bytes : List ℕ) → SpellsTo lines rest bytes → rest ≡ [] → length lines ≤ 65536 → SpellsRefs lines bytes
+spelled_all lines rest bytes s e few = record { spelled = subst (λ (l : List ℕ). SpellsTo lines l bytes) e s; few = few }
+
+-- a line has bytes
+pub line_is_longer : (line : Line) (behind bytes : List ℕ) → bytes ≡ line_text line ++ behind → length behind < length bytes
+line_is_longer line behind bytes e =
+    omega (arith, ap length e, length-append (line_text line) behind, length-append (encode_lower line.1.0) (32 ∷ (line.0 ++ 10 ∷ [])))
+
+-- no line stands in front of nothing
+pub no_line : (line : Line) (behind : List ℕ) → [] ≡ line_text line ++ behind → ⊥
+no_line line behind e = omega (arith, line_is_longer line behind [] e)
+
+-- the next line is broken
+pub breaks_here : (lines : List Line) (rest bytes : List ℕ) → SpellsTo lines rest bytes → (rest ≡ [] → ⊥)
+    → ((line : Line) (behind : List ℕ) → Continues lines line behind rest → ⊥) → length lines < 65536 → BreaksAt (length lines + 1) bytes
+breaks_here lines rest bytes s more none few = record {
+  before = lines;
+  rest = rest;
+  spelled = s;
+  stops = record { more = more; none = none };
+  few = few;
+  count = refl;
+}
+
+-- too many lines
+pub too_many_here : (lines : List Line) (rest bytes : List ℕ) → SpellsTo lines rest bytes → (rest ≡ [] → ⊥) → length lines ≡ 65536 → HasTooMany bytes
+too_many_here lines rest bytes s more count = record { before = lines; rest = rest; spelled = s; more = more; count = count }

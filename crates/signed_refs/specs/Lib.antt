@@ -1,0 +1,3 @@
+pub mod Lines
+pub mod Namespaces
+pub mod Readings

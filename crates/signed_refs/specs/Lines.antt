@@ -1,0 +1,60 @@
+-- The lines of signed refs.
+use Rattle.std.specs.Prelude.{◌≡◌, ℕ, ◌≤◌, List, [], ◌∷◌, ◌++◌, length, codes, Option, None, Some}
+use Rattle.std.specs.List.{AllByRecursion, flat_map}
+use Rattle.hex.specs.Hex.{encode_lower}
+use Rattle.rad_base.specs.Sizes.{IsOid}
+use Rattle.rad_base.specs.declared.names.Oid.{Oid}
+use Rattle.git_object.specs.Grammar.{IsBelow}
+use Rattle.ref_name.specs.Rules.{Begins, KeepsRules}
+
+-- the name of a ref, and the object that it names
+abbrev pub Line : Type 0
+Line = List ℕ × Oid
+
+-- a ref's name by Git's rules, under `refs/`, and not that of the signed refs themselves
+pub record IsSignedName (name : List ℕ) : Type 0 where
+  pub begins : Begins (codes "refs/") name
+  pub keeps : KeepsRules name
+  pub other : name ≡ codes "refs/rad/sigrefs" → ⊥
+
+-- a name that may be signed, and the 20 bytes of an object's name
+pub record IsLine (line : Line) : Type 0 where
+  pub name : IsSignedName line.0
+  pub oid : IsOid line.1
+
+-- the 40 digits of the object's name, a space, the ref's name and a line feed
+abbrev pub line_text : Line → List ℕ
+line_text line = encode_lower line.1.0 ++ 32 ∷ (line.0 ++ 10 ∷ [])
+
+-- the texts of the lines, one behind the other
+abbrev pub refs_text : List Line → List ℕ
+refs_text lines = flat_map line_text lines
+
+-- the name of the last line, or the one before them all
+abbrev pub last_from : Option (List ℕ) → List Line → Option (List ℕ)
+last_from before [] = before
+last_from before (line ∷ lines) = last_from (Some line.0) lines
+
+-- each name is below the next, the first above the name before, where there is one
+abbrev pub RiseFrom : Option (List ℕ) → List Line → Type 0
+RiseFrom before [] = Unit {0}
+RiseFrom before (line ∷ lines) = IsBelow before line.0 × RiseFrom (Some line.0) lines
+
+-- the names are strictly rising
+abbrev pub AreRising : List Line → Type 0
+AreRising lines = RiseFrom None lines
+
+-- the name is above those of the lines
+abbrev pub IsAbove : List Line → List ℕ → Type 0
+IsAbove lines name = IsBelow (last_from None lines) name
+
+-- lines of their form, their names strictly rising, and the bytes that spell them with a rest
+pub record SpellsTo (lines : List Line) (rest bytes : List ℕ) : Type 0 where
+  pub each : AllByRecursion IsLine lines
+  pub rising : AreRising lines
+  pub text : bytes ≡ refs_text lines ++ rest
+
+-- the bytes of signed refs that have these lines
+pub record SpellsRefs (lines : List Line) (bytes : List ℕ) : Type 0 where
+  pub spelled : SpellsTo lines [] bytes
+  pub few : length lines ≤ 65536

@@ -1,0 +1,19 @@
+// What holds of signed refs by their definitions alone.
+ghost use Rattle.std.specs.Prelude.{◌≡◌, ℕ, List, Result, Ok, Err};
+ghost use Rattle.signed_refs.specs.Lines.{Line, SpellsRefs};
+ghost use Rattle.signed_refs.specs.Readings.{Reads};
+ghost use Rattle.signed_refs.specs.declared.fault.RefsFault.{RefsFault};
+
+/// Bytes are read in one way, want of memory apart.
+pub fn one_reading()
+    ensures { (bytes : List ℕ) (a b : Result (List Line) RefsFault) → Reads bytes a → Reads bytes b
+        → (a ≡ Err RefsFault.NoMemory → ⊥) → (b ≡ Err RefsFault.NoMemory → ⊥) → a ≡ b }
+{}
+
+/// What was written is read back, and refs have one spelling.
+pub fn refs_are_read_back()
+    ensures back { (lines : List Line) (bytes : List ℕ) (answer : Result (List Line) RefsFault)
+        → SpellsRefs lines bytes → Reads bytes answer → (answer ≡ Err RefsFault.NoMemory → ⊥)
+        → answer ≡ Ok lines }
+    ensures one { (lines : List Line) (a b : List ℕ) → SpellsRefs lines a → SpellsRefs lines b → a ≡ b }
+{}
