@@ -1,0 +1,133 @@
+-- Identity documents: what a JSON value says of who may speak for a repository and who sees it.
+use Rattle.std.specs.Prelude.{ℕ, ◌&&◌, nat_le, if◌then◌else◌, Bool, List, [], ◌∷◌, ◌++◌, length, map, codes, Contains, ◌⊎◌, Option, Some, None, option_map, option_and_then, ok_or, Result, Ok, Err}
+use Rattle.std.specs.List.{list_any}
+use Rattle.std.specs.Str.{bytes_eq}
+use Rattle.serde_json.specs.Data.{Data, Items, no_items, item, Members, Num}
+use Rattle.serde_json.specs.Find.{get, get_member, as_array, as_number, as_object, as_str, as_u64}
+use Rattle.rad_base.specs.declared.names.Nid.{Nid}
+use Rattle.keyring.specs.Contents.{Contents, key_of}
+use Rattle.identity_doc.specs.declared.doc.Doc.{Doc}
+use Rattle.identity_doc.specs.declared.doc.Visibility.{Visibility}
+use Rattle.identity_doc.specs.declared.doc.Visibility.TheVariants.{Public, Private}
+use Rattle.identity_doc.specs.declared.fault.DocFault.{DocFault}
+use Rattle.identity_doc.specs.declared.fault.DocFault.TheVariants.{NoField, BadCount, BadDelegate, Twice, BadThreshold, BadVisibility}
+use Rattle.identity_doc.specs.declared.fault.Field.TheVariants.{Delegates, Threshold, Payload}
+
+-- the next check, where this one passes
+infixl 10 ◌>>=◌
+abbrev pub ◌>>=◌ : {A B : Type 0} → Result A DocFault → (A → Result B DocFault) → Result B DocFault
+(Ok x) >>= check = check x
+(Err fault) >>= check = Err fault
+
+-- the elements of an array, in order
+abbrev pub elements : Items → List Data
+elements no_items = []
+elements (item d ds) = d ∷ elements ds
+
+-- the elements of the array that a value has under a name
+abbrev pub array_at : List ℕ → Data → Option (List Data)
+array_at name value = option_map elements (option_and_then as_array (get name value))
+
+-- the key for which an element stands: that of its text
+abbrev pub key_in : Contents → Data → Option Nid
+key_in keyring element = option_and_then (key_of keyring) (as_str element)
+
+-- whether a key is one of these
+abbrev pub is_among : List Nid → Nid → Bool
+is_among keys key = list_any (λ other. bytes_eq other.0 key.0) keys
+
+-- 1. the array of the delegates
+abbrev pub listed : Data → Result (List Data) DocFault
+listed value = ok_or (array_at (codes "delegates") value) (NoField Delegates)
+
+-- 2. it has 1 to 255 elements
+abbrev pub counted : List Data → Result (List Data) DocFault
+counted ds = if nat_le 1 (length ds) && nat_le (length ds) 255 then Ok ds else Err (BadCount (length ds))
+
+-- the keys of elements behind those that have these keys, up to the first element that has no key, or one of those before it
+abbrev pub keys_behind : List Nid → List (Option Nid) → Result (List Nid) DocFault
+keys_behind before [] = Ok before
+keys_behind before (None ∷ rest) = Err (BadDelegate (length before))
+keys_behind before (Some key ∷ rest) =
+    if is_among before key then Err (Twice (length before)) else keys_behind (before ++ key ∷ []) rest
+
+-- 3. each element has a key, which no element before it has
+abbrev pub keyed : Contents → List Data → Result (List Nid) DocFault
+keyed keyring ds = keys_behind [] (map (key_in keyring) ds)
+
+-- 4. the number that is the threshold
+abbrev pub numbered : Data → Result Num DocFault
+numbered value = ok_or (option_and_then as_number (get (codes "threshold") value)) (NoField Threshold)
+
+-- a number from 1 to n
+abbrev pub within : ℕ → ℕ → Option ℕ
+within n number = if nat_le 1 number && nat_le number n then Some number else None
+
+-- 5. it is an integer from 1 to the number of delegates
+abbrev pub reachable : ℕ → Num → Result ℕ DocFault
+reachable n number = ok_or (option_and_then (within n) (as_u64 number)) BadThreshold
+
+-- 6. the object that is the payload
+abbrev pub paid : Data → Result Members DocFault
+paid value = ok_or (option_and_then as_object (get (codes "payload") value)) (NoField Payload)
+
+-- all of the keys, if none is missing
+abbrev pub all_of : List (Option Nid) → Option (List Nid)
+all_of [] = Some []
+all_of (None ∷ keys) = None
+all_of (Some key ∷ keys) = option_map (λ rest. key ∷ rest) (all_of keys)
+
+-- those whom a private repository allows: none where nothing is said
+abbrev pub allowed : Contents → Option Data → Option (List Nid)
+allowed keyring None = Some []
+allowed keyring (Some value) =
+    option_and_then (λ ds. all_of (map (key_in keyring) (elements ds))) (as_array value)
+
+-- the visibility of this type
+abbrev pub of_type : Contents → Data → List ℕ → Option Visibility
+of_type keyring value type =
+    if bytes_eq type (codes "public") then Some Public
+    else if bytes_eq type (codes "private") then option_map Private (allowed keyring (get (codes "allow") value))
+    else None
+
+-- the visibility that is said, public where nothing is
+abbrev pub visibility_of : Contents → Option Data → Option Visibility
+visibility_of keyring None = Some Public
+visibility_of keyring (Some value) =
+    option_and_then (of_type keyring value) (option_and_then as_str (get (codes "type") value))
+
+-- 7. it is absent, or public, or private with keys that are allowed
+abbrev pub visible : Contents → Data → Result Visibility DocFault
+visible keyring value = ok_or (visibility_of keyring (get (codes "visibility") value)) BadVisibility
+
+-- the text of the default branch in the payload
+abbrev pub branch_in : Members → Option (List ℕ)
+branch_in payload =
+    option_and_then as_str
+    (option_and_then (get (codes "defaultBranch")) (get_member (codes "xyz.radicle.project") payload))
+
+-- the document of a JSON value, or the first check that it fails
+abbrev pub document : Data → Contents → Result Doc DocFault
+document value keyring = do
+  all ← listed value
+  some ← counted all
+  delegates ← keyed keyring some
+  number ← numbered value
+  threshold ← reachable (length delegates) number
+  payload ← paid value
+  visibility ← visible keyring value
+  Ok (record {
+    delegates = delegates;
+    threshold = threshold;
+    default_branch = branch_in payload;
+    visibility = visibility;
+  })
+
+-- the visibility lets a node see the repository, be it a delegate or not
+abbrev pub Allows : Visibility → Nid → Type 0
+Allows Public asker = Unit {0}
+Allows (Private nids) asker = Contains nids asker
+
+-- a node sees the repository: it is public, or the node is a delegate or allowed
+abbrev pub Sees : Doc → Nid → Type 0
+Sees doc asker = Contains doc.delegates asker ⊎ Allows doc.visibility asker
