@@ -2,13 +2,13 @@
 use Rattle.std.specs.Prelude.{ℕ, ◌&&◌, nat_le, if◌then◌else◌, Bool, List, [], ◌∷◌, ◌++◌, length, map, codes, Contains, ◌⊎◌, Option, Some, None, option_map, option_and_then, ok_or, Result, Ok, Err}
 use Rattle.std.specs.List.{list_any}
 use Rattle.std.specs.Str.{bytes_eq}
-use Rattle.serde_json.specs.Data.{Data, Items, no_items, item, Members, Num}
-use Rattle.serde_json.specs.Find.{get, get_member, as_array, as_number, as_object, as_str, as_u64}
+use Rattle.serde_json.specs.Data.{Data, object, Items, no_items, item, Num}
+use Rattle.serde_json.specs.Find.{get, as_array, as_number, as_object, as_str, as_u64}
 use Rattle.rad_base.specs.declared.names.Nid.{Nid}
 use Rattle.keyring.specs.Contents.{Contents, key_of}
 use Rattle.identity_doc.specs.declared.doc.Doc.{Doc}
-use Rattle.identity_doc.specs.declared.doc.Visibility.{Visibility}
-use Rattle.identity_doc.specs.declared.doc.Visibility.TheVariants.{Public, Private}
+use Rattle.identity_doc.specs.declared.visibility.Visibility.{Visibility}
+use Rattle.identity_doc.specs.declared.visibility.Visibility.TheVariants.{Public, Private}
 use Rattle.identity_doc.specs.declared.fault.DocFault.{DocFault}
 use Rattle.identity_doc.specs.declared.fault.DocFault.TheVariants.{NoField, BadCount, BadDelegate, Twice, BadThreshold, BadVisibility}
 use Rattle.identity_doc.specs.declared.fault.Field.TheVariants.{Delegates, Threshold, Payload}
@@ -44,12 +44,15 @@ listed value = ok_or (array_at (codes "delegates") value) (NoField Delegates)
 abbrev pub counted : List Data → Result (List Data) DocFault
 counted ds = if nat_le 1 (length ds) && nat_le (length ds) 255 then Ok ds else Err (BadCount (length ds))
 
--- the keys of elements behind those that have these keys, up to the first element that has no key, or one of those before it
+-- the key of the next element, which is none of those before
+abbrev pub next_key : List Nid → Option Nid → Result Nid DocFault
+next_key before None = Err (BadDelegate (length before))
+next_key before (Some key) = if is_among before key then Err (Twice (length before)) else Ok key
+
+-- these keys and those of the elements behind them, up to the first element that fails
 abbrev pub keys_behind : List Nid → List (Option Nid) → Result (List Nid) DocFault
 keys_behind before [] = Ok before
-keys_behind before (None ∷ rest) = Err (BadDelegate (length before))
-keys_behind before (Some key ∷ rest) =
-    if is_among before key then Err (Twice (length before)) else keys_behind (before ++ key ∷ []) rest
+keys_behind before (next ∷ rest) = next_key before next >>= λ key. keys_behind (before ++ key ∷ []) rest
 
 -- 3. each element has a key, which no element before it has
 abbrev pub keyed : Contents → List Data → Result (List Nid) DocFault
@@ -67,9 +70,13 @@ within n number = if nat_le 1 number && nat_le number n then Some number else No
 abbrev pub reachable : ℕ → Num → Result ℕ DocFault
 reachable n number = ok_or (option_and_then (within n) (as_u64 number)) BadThreshold
 
+-- the value, if it is an object
+abbrev pub object_in : Data → Option Data
+object_in value = option_map object (as_object value)
+
 -- 6. the object that is the payload
-abbrev pub paid : Data → Result Members DocFault
-paid value = ok_or (option_and_then as_object (get (codes "payload") value)) (NoField Payload)
+abbrev pub paid : Data → Result Data DocFault
+paid value = ok_or (option_and_then object_in (get (codes "payload") value)) (NoField Payload)
 
 -- all of the keys, if none is missing
 abbrev pub all_of : List (Option Nid) → Option (List Nid)
@@ -101,10 +108,10 @@ abbrev pub visible : Contents → Data → Result Visibility DocFault
 visible keyring value = ok_or (visibility_of keyring (get (codes "visibility") value)) BadVisibility
 
 -- the text of the default branch in the payload
-abbrev pub branch_in : Members → Option (List ℕ)
+abbrev pub branch_in : Data → Option (List ℕ)
 branch_in payload =
     option_and_then as_str
-    (option_and_then (get (codes "defaultBranch")) (get_member (codes "xyz.radicle.project") payload))
+    (option_and_then (get (codes "defaultBranch")) (get (codes "xyz.radicle.project") payload))
 
 -- the document of a JSON value, or the first check that it fails
 abbrev pub document : Data → Contents → Result Doc DocFault

@@ -4,20 +4,15 @@ ghost use Rattle.serde_json.specs.View.{view};
 ghost use Rattle.identity_doc.specs.Documents.{document, Sees};
 ghost use Rattle.identity_doc.specs.declared.fault.DocFault.TheVariants.{NoMemory};
 
+use crate::branch::branch_in;
+use crate::delegates::keyed;
 use crate::fault::DocFault;
+use crate::fields::{counted, listed, numbered, paid, reachable};
+use crate::visibility::{Visibility, visible};
 use keyring::Keyring;
 use rad_base::{Nid, Nids, Text};
 use serde_json::Value;
 use std::alloc::Global;
-
-/// Who sees a repository.
-#[derive(Debug, Drop)]
-pub enum Visibility {
-    /// Everyone.
-    Public,
-    /// Its delegates and these, in the order of the document.
-    Private(Nids),
-}
 
 /// An identity document: who may speak for a repository, and who sees it.
 #[derive(Debug, Drop)]
@@ -57,7 +52,20 @@ impl Doc {
         ensures refused { IfErr result (λ fault.
             fault ≢ NoMemory → document (view value.now) keyring.now ≡ Err fault) }
     {
-        Err(DocFault::NoMemory)
+        let elements = listed(value)?;
+        counted(elements)?;
+        let delegates = keyed(alloc, keyring, elements)?;
+        let number = numbered(value)?;
+        let threshold = reachable(delegates.as_slice().len(), number)?;
+        let payload = paid(value)?;
+        let visibility = visible(alloc, keyring, value)?;
+        let default_branch = branch_in(alloc, payload)?;
+        Ok(Doc {
+            delegates,
+            threshold,
+            default_branch,
+            visibility,
+        })
     }
 
     /// Whether a node sees the repository: it is public, or the node is a delegate or allowed.

@@ -1,0 +1,95 @@
+// Who sees a repository.
+ghost use Rattle.std.specs.Prelude.{◌≡◌, ◌≢◌, IfOk, IfErr, None, Some, Ok, Err, map};
+ghost use Rattle.serde_json.specs.Find.{get};
+ghost use Rattle.serde_json.specs.View.{view};
+ghost use Rattle.std.specs.Prelude.{codes, option_map, option_and_then};
+ghost use Rattle.serde_json.specs.Find.{as_str};
+ghost use Rattle.identity_doc.specs.Documents.{all_of, allowed, key_in, of_type, visible};
+ghost use Rattle.identity_doc.specs.declared.fault.DocFault.TheVariants.{BadVisibility, NoMemory};
+
+use crate::fault::DocFault;
+use crate::fields::key_in;
+use keyring::Keyring;
+use rad_base::Nids;
+use serde_json::Value;
+use std::alloc::Global;
+
+/// Who sees a repository.
+#[derive(Debug, Drop)]
+pub enum Visibility {
+    /// Everyone.
+    Public,
+    /// Its delegates and these, in the order of the document.
+    Private(Nids),
+}
+
+// The keys of the elements.
+fn all_keys(alloc: Global, keyring: &Keyring, elements: &[Value]) -> Result<Nids, DocFault>
+    ensures read { IfOk result (λ keys.
+        all_of (map (key_in keyring.now) (map view elements.now)) ≡ Some keys) }
+    ensures refused { IfErr result (λ fault. fault ≢ NoMemory → (fault ≡ BadVisibility)
+        × (all_of (map (key_in keyring.now) (map view elements.now)) ≡ None)) }
+{
+    let mut keys = Nids::new(alloc);
+    for element in elements {
+        let Some(key) = key_in(keyring, element) else {
+            return Err(DocFault::BadVisibility);
+        };
+        keys.push(key)?;
+    }
+    Ok(keys)
+}
+
+// Those whom a private repository allows.
+#[tactic(auto, using(crate::proofs::Elements::elements_view))]
+fn allowed(alloc: Global, keyring: &Keyring, said: &Value) -> Result<Nids, DocFault>
+    ensures read { IfOk result (λ keys.
+        allowed keyring.now (get (codes "allow") (view said.now)) ≡ Some keys) }
+    ensures refused { IfErr result (λ fault. fault ≢ NoMemory → (fault ≡ BadVisibility)
+        × (allowed keyring.now (get (codes "allow") (view said.now)) ≡ None)) }
+{
+    let Some(list) = said.get("allow") else {
+        return Ok(Nids::new(alloc));
+    };
+    let Some(elements) = list.as_array() else {
+        return Err(DocFault::BadVisibility);
+    };
+    let keys = all_keys(alloc, keyring, elements.as_slice())?;
+    Ok(keys)
+}
+
+// The visibility that is said.
+fn said_visibility(alloc: Global, keyring: &Keyring, said: &Value) -> Result<Visibility, DocFault>
+    ensures read { IfOk result (λ visibility.
+        option_and_then (of_type keyring.now (view said.now))
+        (option_and_then as_str (get (codes "type") (view said.now))) ≡ Some visibility) }
+    ensures refused { IfErr result (λ fault. fault ≢ NoMemory → (fault ≡ BadVisibility)
+        × (option_and_then (of_type keyring.now (view said.now))
+        (option_and_then as_str (get (codes "type") (view said.now))) ≡ None)) }
+{
+    match said.get("type").and_then(Value::as_str) {
+        Some("public") => Ok(Visibility::Public),
+        Some("private") => {
+            let keys = allowed(alloc, keyring, said)?;
+            Ok(Visibility::Private(keys))
+        }
+        _ => Err(DocFault::BadVisibility),
+    }
+}
+
+/// The visibility of a document, public where nothing is said.
+pub(crate) fn visible(
+    alloc: Global,
+    keyring: &Keyring,
+    value: &Value,
+) -> Result<Visibility, DocFault>
+    ensures read { IfOk result (λ visibility. visible keyring.now (view value.now) ≡ Ok visibility) }
+    ensures refused { IfErr result (λ fault.
+        fault ≢ NoMemory → visible keyring.now (view value.now) ≡ Err fault) }
+{
+    let Some(said) = value.get("visibility") else {
+        return Ok(Visibility::Public);
+    };
+    let visibility = said_visibility(alloc, keyring, said)?;
+    Ok(visibility)
+}
