@@ -1,1 +1,3 @@
+pub mod Branches
 pub mod Elements
+pub mod OneDocument

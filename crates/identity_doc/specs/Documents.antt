@@ -1,11 +1,12 @@
 -- Identity documents: what a JSON value says of who may speak for a repository and who sees it.
-use Rattle.std.specs.Prelude.{ℕ, ◌&&◌, nat_le, if◌then◌else◌, Bool, List, [], ◌∷◌, ◌++◌, length, map, codes, Contains, ◌⊎◌, Option, Some, None, option_map, option_and_then, ok_or, Result, Ok, Err}
+use Rattle.std.specs.Prelude.{◌≡◌, ℕ, ◌&&◌, nat_le, if◌then◌else◌, Bool, List, [], ◌∷◌, ◌++◌, length, map, codes, Contains, ◌⊎◌, Option, Some, None, option_map, option_and_then, ok_or, Result, Ok, Err}
 use Rattle.std.specs.List.{list_any}
 use Rattle.std.specs.Str.{bytes_eq}
 use Rattle.serde_json.specs.Data.{Data, object, Items, no_items, item, Num}
 use Rattle.serde_json.specs.Find.{get, as_array, as_number, as_object, as_str, as_u64}
 use Rattle.rad_base.specs.declared.names.Nid.{Nid}
 use Rattle.keyring.specs.Contents.{Contents, key_of}
+use Rattle.ref_name.specs.Rules.{KeepsRules}
 use Rattle.identity_doc.specs.declared.doc.Doc.{Doc}
 use Rattle.identity_doc.specs.declared.visibility.Visibility.{Visibility}
 use Rattle.identity_doc.specs.declared.visibility.Visibility.TheVariants.{Public, Private}
@@ -107,15 +108,16 @@ visibility_of keyring (Some value) =
 abbrev pub visible : Contents → Data → Result Visibility DocFault
 visible keyring value = ok_or (visibility_of keyring (get (codes "visibility") value)) BadVisibility
 
--- the text of the default branch in the payload
-abbrev pub branch_in : Data → Option (List ℕ)
-branch_in payload =
-    option_and_then as_str
-    (option_and_then (get (codes "defaultBranch")) (get (codes "xyz.radicle.project") payload))
+-- what the checks read
+pub record Checked : Type 0 where
+  pub delegates : List Nid
+  pub threshold : ℕ
+  pub payload : Data
+  pub visibility : Visibility
 
--- the document of a JSON value, or the first check that it fails
-abbrev pub document : Data → Contents → Result Doc DocFault
-document value keyring = do
+-- what the seven checks read, or the first of them that fails
+abbrev pub checked : Data → Contents → Result Checked DocFault
+checked value keyring = do
   all ← listed value
   some ← counted all
   delegates ← keyed keyring some
@@ -126,9 +128,35 @@ document value keyring = do
   Ok (record {
     delegates = delegates;
     threshold = threshold;
-    default_branch = branch_in payload;
+    payload = payload;
     visibility = visibility;
   })
+
+-- the text that a payload has for the default branch
+abbrev pub branch_text : Data → Option (List ℕ)
+branch_text payload =
+    option_and_then as_str
+    (option_and_then (get (codes "defaultBranch")) (get (codes "xyz.radicle.project") payload))
+
+-- the default branch of a payload: its text, where Git allows the name of the branch, and else none
+abbrev pub IsBranch : Data → Option (List ℕ) → Type 0
+IsBranch payload None = (name : List ℕ) → branch_text payload ≡ Some name → KeepsRules (codes "refs/heads/" ++ name) → ⊥
+IsBranch payload (Some name) = (branch_text payload ≡ Some name) × KeepsRules (codes "refs/heads/" ++ name)
+
+-- the value passes the seven checks, and it is this document
+pub record IsDocument (value : Data) (keyring : Contents) (doc : Doc) : Type 0 where
+  pub payload : Data
+  pub passes : checked value keyring ≡ Ok (record {
+    delegates = doc.delegates;
+    threshold = doc.threshold;
+    payload = payload;
+    visibility = doc.visibility;
+  })
+  pub branch : IsBranch payload doc.default_branch
+
+-- this check is the first that the value fails
+abbrev pub IsRefused : Data → Contents → DocFault → Type 0
+IsRefused value keyring fault = checked value keyring ≡ Err fault
 
 -- the visibility lets a node see the repository, be it a delegate or not
 abbrev pub Allows : Visibility → Nid → Type 0

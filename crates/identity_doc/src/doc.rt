@@ -1,7 +1,7 @@
 // Identity documents.
 ghost use Rattle.std.specs.Prelude.{◌≡◌, ◌≢◌, ◌↔◌, IfOk, IfErr, IsTrue, Ok, Err};
 ghost use Rattle.serde_json.specs.View.{view};
-ghost use Rattle.identity_doc.specs.Documents.{document, Sees};
+ghost use Rattle.identity_doc.specs.Documents.{IsDocument, IsRefused, Sees};
 ghost use Rattle.identity_doc.specs.declared.fault.DocFault.TheVariants.{NoMemory};
 
 use crate::branch::branch_in;
@@ -48,9 +48,9 @@ impl Doc {
     /// followed by it is a name that git-check-ref-format allows; else there is none. `NoMemory`
     /// where memory is refused.
     pub fn of(alloc: Global, value: &Value, keyring: &Keyring) -> Result<Doc, DocFault>
-        ensures read { IfOk result (λ doc. document (view value.now) keyring.now ≡ Ok doc) }
+        ensures read { IfOk result (IsDocument (view value.now) keyring.now) }
         ensures refused { IfErr result (λ fault.
-            fault ≢ NoMemory → document (view value.now) keyring.now ≡ Err fault) }
+            fault ≢ NoMemory → IsRefused (view value.now) keyring.now fault) }
     {
         let elements = listed(value)?;
         counted(elements)?;
