@@ -6,6 +6,8 @@ mod delegates;
 mod doc;
 mod fault;
 mod fields;
+#[cfg(test)]
+mod tests;
 mod visibility;
 
 pub use doc::Doc;
