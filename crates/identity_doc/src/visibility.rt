@@ -32,10 +32,10 @@ fn all_keys(alloc: Global, keyring: &Keyring, elements: &[Value]) -> Result<Nids
 {
     let mut keys = Nids::new(alloc);
     for element in elements {
-        let Some(key) = key_in(keyring, element) else {
-            return Err(DocFault::BadVisibility);
-        };
-        keys.push(key)?;
+        match key_in(keyring, element) {
+            Some(key) => keys.push(key)?,
+            None => return Err(DocFault::BadVisibility),
+        }
     }
     Ok(keys)
 }
