@@ -1,3 +1,9 @@
 pub mod Branches
 pub mod Elements
+pub mod IdentityLines
+pub mod IdentitySteps
 pub mod OneDocument
+pub mod OneIdentity
+pub mod SignatureFronts
+pub mod SignatureOrder
+pub mod SignatureReading
