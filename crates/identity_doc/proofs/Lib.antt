@@ -1,4 +1,6 @@
+pub mod Bounds
 pub mod Branches
+pub mod DelegateKeys
 pub mod Elements
 pub mod IdentityLines
 pub mod IdentitySteps

@@ -38,12 +38,12 @@ abbrev pub is_among : List Nid → Nid → Bool
 is_among keys key = list_any (λ other. bytes_eq other.0 key.0) keys
 
 -- 1. the array of the delegates
-abbrev pub listed : Data → Result (List Data) DocFault
-listed value = ok_or (array_at (codes "delegates") value) (NoField Delegates)
+abbrev pub delegate_elements : Data → Result (List Data) DocFault
+delegate_elements value = ok_or (array_at (codes "delegates") value) (NoField Delegates)
 
 -- 2. it has 1 to 255 elements
-abbrev pub counted : List Data → Result (List Data) DocFault
-counted ds = if nat_le 1 (length ds) && nat_le (length ds) 255 then Ok ds else Err (BadCount (length ds))
+abbrev pub counted_elements : List Data → Result (List Data) DocFault
+counted_elements ds = if nat_le 1 (length ds) && nat_le (length ds) 255 then Ok ds else Err (BadCount (length ds))
 
 -- the key of the next element, which is none of those before
 abbrev pub next_key : List Nid → Option Nid → Result Nid DocFault
@@ -56,28 +56,28 @@ keys_behind before [] = Ok before
 keys_behind before (next ∷ rest) = next_key before next >>= λ key. keys_behind (before ++ key ∷ []) rest
 
 -- 3. each element has a key, which no element before it has
-abbrev pub keyed : Contents → List Data → Result (List Nid) DocFault
-keyed keyring ds = keys_behind [] (map (key_in keyring) ds)
+abbrev pub element_keys : Contents → List Data → Result (List Nid) DocFault
+element_keys keyring ds = keys_behind [] (map (key_in keyring) ds)
 
 -- 4. the number that is the threshold
-abbrev pub numbered : Data → Result Num DocFault
-numbered value = ok_or (option_and_then as_number (get (codes "threshold") value)) (NoField Threshold)
+abbrev pub threshold_number : Data → Result Num DocFault
+threshold_number value = ok_or (option_and_then as_number (get (codes "threshold") value)) (NoField Threshold)
 
 -- a number from 1 to n
 abbrev pub within : ℕ → ℕ → Option ℕ
 within n number = if nat_le 1 number && nat_le number n then Some number else None
 
 -- 5. it is an integer from 1 to the number of delegates
-abbrev pub reachable : ℕ → Num → Result ℕ DocFault
-reachable n number = ok_or (option_and_then (within n) (as_u64 number)) BadThreshold
+abbrev pub threshold_within : ℕ → Num → Result ℕ DocFault
+threshold_within n number = ok_or (option_and_then (within n) (as_u64 number)) BadThreshold
 
 -- the value, if it is an object
 abbrev pub object_in : Data → Option Data
 object_in value = option_map object (as_object value)
 
 -- 6. the object that is the payload
-abbrev pub paid : Data → Result Data DocFault
-paid value = ok_or (option_and_then object_in (get (codes "payload") value)) (NoField Payload)
+abbrev pub payload_object : Data → Result Data DocFault
+payload_object value = ok_or (option_and_then object_in (get (codes "payload") value)) (NoField Payload)
 
 -- all of the keys, if none is missing
 abbrev pub all_of : List (Option Nid) → Option (List Nid)
@@ -99,14 +99,14 @@ of_type keyring value type =
     else None
 
 -- the visibility that is said, public where nothing is
-abbrev pub visibility_of : Contents → Option Data → Option Visibility
-visibility_of keyring None = Some Public
-visibility_of keyring (Some value) =
+abbrev pub said_visibility : Contents → Option Data → Option Visibility
+said_visibility keyring None = Some Public
+said_visibility keyring (Some value) =
     option_and_then (of_type keyring value) (option_and_then as_str (get (codes "type") value))
 
 -- 7. it is absent, or public, or private with keys that are allowed
-abbrev pub visible : Contents → Data → Result Visibility DocFault
-visible keyring value = ok_or (visibility_of keyring (get (codes "visibility") value)) BadVisibility
+abbrev pub visibility_of : Contents → Data → Result Visibility DocFault
+visibility_of keyring value = ok_or (said_visibility keyring (get (codes "visibility") value)) BadVisibility
 
 -- what the checks read
 pub record Checked : Type 0 where
@@ -118,13 +118,13 @@ pub record Checked : Type 0 where
 -- what the seven checks read, or the first of them that fails
 abbrev pub checked : Data → Contents → Result Checked DocFault
 checked value keyring = do
-  all ← listed value
-  some ← counted all
-  delegates ← keyed keyring some
-  number ← numbered value
-  threshold ← reachable (length delegates) number
-  payload ← paid value
-  visibility ← visible keyring value
+  all ← delegate_elements value
+  some ← counted_elements all
+  delegates ← element_keys keyring some
+  number ← threshold_number value
+  threshold ← threshold_within (length delegates) number
+  payload ← payload_object value
+  visibility ← visibility_of keyring value
   Ok (record {
     delegates = delegates;
     threshold = threshold;

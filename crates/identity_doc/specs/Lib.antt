@@ -1,3 +1,4 @@
+pub mod DelegateKeys
 pub mod Documents
 pub mod IdentityChains
 pub mod IdentityFaults

@@ -1,7 +1,7 @@
 // The keys of the delegates.
 ghost use Rattle.std.specs.Prelude.{◌≡◌, ◌≢◌, IfOk, IfErr, Ok, Err, map, length};
 ghost use Rattle.serde_json.specs.View.{view};
-ghost use Rattle.identity_doc.specs.Documents.{key_in, is_among, next_key, keyed};
+ghost use Rattle.identity_doc.specs.Documents.{key_in, is_among, next_key, element_keys};
 ghost use Rattle.identity_doc.specs.declared.fault.DocFault.TheVariants.{NoMemory};
 
 use crate::fault::DocFault;
@@ -29,11 +29,15 @@ fn next_key(before: &[Nid], keyring: &Keyring, element: &Value) -> Result<Nid, D
 }
 
 /// The keys of the elements, all different. A scan of those before each: there are at most 255.
-pub(crate) fn keyed(alloc: Global, keyring: &Keyring, elements: &[Value]) -> Result<Nids, DocFault>
-    ensures read { IfOk result (λ keys. keyed keyring.now (map view elements.now) ≡ Ok keys) }
+pub(crate) fn element_keys(
+    alloc: Global,
+    keyring: &Keyring,
+    elements: &[Value],
+) -> Result<Nids, DocFault>
+    ensures read { IfOk result (λ keys. element_keys keyring.now (map view elements.now) ≡ Ok keys) }
     ensures count { IfOk result (λ keys. length keys ≡ length elements.now) }
     ensures refused { IfErr result (λ fault.
-        fault ≢ NoMemory → keyed keyring.now (map view elements.now) ≡ Err fault) }
+        fault ≢ NoMemory → element_keys keyring.now (map view elements.now) ≡ Err fault) }
 {
     let mut keys = Nids::new(alloc);
     for element in elements {

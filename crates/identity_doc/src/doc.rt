@@ -5,10 +5,12 @@ ghost use Rattle.identity_doc.specs.Documents.{IsDocument, IsRefused, Sees};
 ghost use Rattle.identity_doc.specs.declared.fault.DocFault.TheVariants.{NoMemory};
 
 use crate::branch::branch_in;
-use crate::delegates::keyed;
+use crate::delegates::element_keys;
 use crate::fault::DocFault;
-use crate::fields::{counted, listed, numbered, paid, reachable};
-use crate::visibility::{Visibility, visible};
+use crate::fields::{
+    counted_elements, delegate_elements, payload_object, threshold_number, threshold_within,
+};
+use crate::visibility::{Visibility, visibility_of};
 use keyring::Keyring;
 use rad_base::{Nid, Nids, Text};
 use serde_json::Value;
@@ -52,13 +54,13 @@ impl Doc {
         ensures refused { IfErr result (λ fault.
             fault ≢ NoMemory → IsRefused (view value.now) keyring.now fault) }
     {
-        let elements = listed(value)?;
-        counted(elements)?;
-        let delegates = keyed(alloc, keyring, elements)?;
-        let number = numbered(value)?;
-        let threshold = reachable(delegates.as_slice().len(), number)?;
-        let payload = paid(value)?;
-        let visibility = visible(alloc, keyring, value)?;
+        let elements = delegate_elements(value)?;
+        counted_elements(elements)?;
+        let delegates = element_keys(alloc, keyring, elements)?;
+        let number = threshold_number(value)?;
+        let threshold = threshold_within(delegates.as_slice().len(), number)?;
+        let payload = payload_object(value)?;
+        let visibility = visibility_of(alloc, keyring, value)?;
         let default_branch = branch_in(alloc, payload)?;
         Ok(Doc {
             delegates,

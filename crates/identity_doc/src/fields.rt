@@ -1,7 +1,7 @@
 // The checks of a document that take no memory.
 ghost use Rattle.std.specs.Prelude.{◌≡◌, ◌≤◌, IfOk, IfErr, OnOk, Ok, Err, map, length};
 ghost use Rattle.serde_json.specs.View.{number_view, view};
-ghost use Rattle.identity_doc.specs.Documents.{key_in, listed, counted, numbered, reachable, paid};
+ghost use Rattle.identity_doc.specs.Documents.{key_in, delegate_elements, counted_elements, threshold_number, threshold_within, payload_object};
 
 use crate::fault::{DocFault, Field};
 use keyring::Keyring;
@@ -20,9 +20,9 @@ pub(crate) fn key_in(keyring: &Keyring, element: &Value) -> Option<Nid>
 
 /// The elements of `delegates`.
 #[tactic(auto, using(crate::proofs::Elements::elements_view))]
-pub(crate) fn listed(value: &Value) -> Result<&[Value], DocFault>
-    ensures read { IfOk result (λ elements. listed (view value.now) ≡ Ok (map view elements.now)) }
-    ensures refused { IfErr result (λ fault. listed (view value.now) ≡ Err fault) }
+pub(crate) fn delegate_elements(value: &Value) -> Result<&[Value], DocFault>
+    ensures read { IfOk result (λ elements. delegate_elements (view value.now) ≡ Ok (map view elements.now)) }
+    ensures refused { IfErr result (λ fault. delegate_elements (view value.now) ≡ Err fault) }
 {
     match value.get("delegates").and_then(Value::as_array) {
         Some(elements) => Ok(elements.as_slice()),
@@ -31,11 +31,11 @@ pub(crate) fn listed(value: &Value) -> Result<&[Value], DocFault>
 }
 
 /// Whether there are 1 to 255 elements.
-pub(crate) fn counted(elements: &[Value]) -> Result<(), DocFault>
+pub(crate) fn counted_elements(elements: &[Value]) -> Result<(), DocFault>
     ensures passed { OnOk result
-        (counted (map view elements.now) ≡ Ok (map view elements.now)) }
+        (counted_elements (map view elements.now) ≡ Ok (map view elements.now)) }
     ensures few { OnOk result (length elements.now ≤ 255) }
-    ensures refused { IfErr result (λ fault. counted (map view elements.now) ≡ Err fault) }
+    ensures refused { IfErr result (λ fault. counted_elements (map view elements.now) ≡ Err fault) }
 {
     if elements.is_empty() || elements.len() > 255 {
         return Err(DocFault::BadCount(elements.len()));
@@ -44,9 +44,9 @@ pub(crate) fn counted(elements: &[Value]) -> Result<(), DocFault>
 }
 
 /// The number that is the threshold.
-pub(crate) fn numbered(value: &Value) -> Result<&Number, DocFault>
-    ensures read { IfOk result (λ number. numbered (view value.now) ≡ Ok (number_view number.now)) }
-    ensures refused { IfErr result (λ fault. numbered (view value.now) ≡ Err fault) }
+pub(crate) fn threshold_number(value: &Value) -> Result<&Number, DocFault>
+    ensures read { IfOk result (λ number. threshold_number (view value.now) ≡ Ok (number_view number.now)) }
+    ensures refused { IfErr result (λ fault. threshold_number (view value.now) ≡ Err fault) }
 {
     match value.get("threshold").and_then(Value::as_number) {
         Some(number) => Ok(number),
@@ -55,9 +55,9 @@ pub(crate) fn numbered(value: &Value) -> Result<&Number, DocFault>
 }
 
 /// The threshold, which this many delegates reach.
-pub(crate) fn reachable(count: usize, number: &Number) -> Result<u8, DocFault>
+pub(crate) fn threshold_within(count: usize, number: &Number) -> Result<u8, DocFault>
     requires { count ≤ 255 }
-    ensures { result ≡ reachable count (number_view number.now) }
+    ensures { result ≡ threshold_within count (number_view number.now) }
 {
     match number.as_u64() {
         Some(threshold) if 1 <= threshold && threshold <= count as u64 => Ok(threshold as u8),
@@ -66,9 +66,9 @@ pub(crate) fn reachable(count: usize, number: &Number) -> Result<u8, DocFault>
 }
 
 /// The payload, which is an object.
-pub(crate) fn paid(value: &Value) -> Result<&Value, DocFault>
-    ensures read { IfOk result (λ payload. paid (view value.now) ≡ Ok (view payload.now)) }
-    ensures refused { IfErr result (λ fault. paid (view value.now) ≡ Err fault) }
+pub(crate) fn payload_object(value: &Value) -> Result<&Value, DocFault>
+    ensures read { IfOk result (λ payload. payload_object (view value.now) ≡ Ok (view payload.now)) }
+    ensures refused { IfErr result (λ fault. payload_object (view value.now) ≡ Err fault) }
 {
     match value.get("payload") {
         Some(payload) if payload.is_object() => Ok(payload),

@@ -1,11 +1,47 @@
-// What holds of identity chains by their definition alone.
-ghost use Rattle.std.specs.Prelude.{◌≡◌, List};
+// What holds of identity documents and of their chains by the definitions alone.
+ghost use Rattle.std.specs.Prelude.{◌≡◌, ◌≤◌, ◌↔◌, ℕ, List, [], length, map, Option, Ok, Err, Some};
+ghost use Rattle.serde_json.specs.Data.{Data};
+ghost use Rattle.keyring.specs.Contents.{Contents};
+ghost use Rattle.identity_doc.specs.DelegateKeys.{AllDiffer, LacksKeyAt, RepeatsAt};
+ghost use Rattle.identity_doc.specs.Documents.{IsDocument, IsRefused, keys_behind};
+ghost use Rattle.identity_doc.specs.declared.fault.DocFault.TheVariants.{BadDelegate, Twice};
+ghost use Rattle.rad_base.specs.declared.names.Nid.{Nid};
+ghost use Rattle.identity_doc.specs.declared.doc.Doc.{Doc};
+ghost use Rattle.identity_doc.specs.declared.fault.DocFault.{DocFault};
 ghost use Rattle.rad_base.specs.declared.names.Oid.{Oid};
 ghost use Rattle.rad_base.specs.declared.names.Rid.{Rid};
-ghost use Rattle.keyring.specs.Contents.{Contents};
 ghost use Rattle.commit_graph.specs.Objects.{ObjectMap};
-ghost use Rattle.identity_doc.specs.declared.doc.Doc.{Doc};
 ghost use Rattle.identity_doc.specs.IdentityChains.{HasIdentity, IsIdentityChain};
+
+/// A value is at most one document, or is refused for at most one reason.
+pub fn one_document()
+    ensures document { (value : Data) (keyring : Contents) (a b : Doc)
+        → IsDocument value keyring a → IsDocument value keyring b → a ≡ b }
+    ensures refusal { (value : Data) (keyring : Contents) (a b : DocFault)
+        → IsRefused value keyring a → IsRefused value keyring b → a ≡ b }
+    ensures never_both { (value : Data) (keyring : Contents) (doc : Doc) (fault : DocFault)
+        → IsDocument value keyring doc → IsRefused value keyring fault → ⊥ }
+{}
+
+/// A document has 1 to 255 delegates, all different, and its threshold is 1 to their number.
+pub fn reachable_threshold()
+    ensures delegates { (value : Data) (keyring : Contents) (doc : Doc)
+        → IsDocument value keyring doc → AllDiffer doc.delegates × (length doc.delegates ≤ 255) }
+    ensures threshold { (value : Data) (keyring : Contents) (doc : Doc)
+        → IsDocument value keyring doc
+        → (1 ≤ doc.threshold) × (doc.threshold ≤ length doc.delegates) }
+{}
+
+/// The keys of delegates are those of all elements and all differ. Where there are none, either an
+/// element has no key, or its key stands before it, and the keys before this element all differ.
+pub fn delegate_keys()
+    ensures read { (found : List (Option Nid)) (keys : List Nid)
+        → (keys_behind [] found ≡ Ok keys) ↔ (found ≡ map Some keys) × AllDiffer keys }
+    ensures lacking { (found : List (Option Nid)) (i : ℕ)
+        → (keys_behind [] found ≡ Err (BadDelegate i)) ↔ LacksKeyAt i found }
+    ensures repeated { (found : List (Option Nid)) (i : ℕ)
+        → (keys_behind [] found ≡ Err (Twice i)) ↔ RepeatsAt i found }
+{}
 
 /// A tip has at most one identity chain, and at most one document.
 pub fn one_identity()

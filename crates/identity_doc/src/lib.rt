@@ -22,5 +22,5 @@ pub use doc::Doc;
 pub use fault::{DocFault, Field};
 pub use id_fault::IdFault;
 pub use identity::id_chain;
-pub use laws::one_identity;
+pub use laws::{delegate_keys, one_document, one_identity, reachable_threshold};
 pub use visibility::Visibility;

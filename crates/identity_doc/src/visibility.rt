@@ -1,10 +1,8 @@
 // Who sees a repository.
-ghost use Rattle.std.specs.Prelude.{◌≡◌, ◌≢◌, IfOk, IfErr, None, Some, Ok, Err, map};
+ghost use Rattle.std.specs.Prelude.{◌≡◌, ◌≢◌, codes, IfOk, IfErr, None, Some, Ok, Err, map};
 ghost use Rattle.serde_json.specs.Find.{get};
 ghost use Rattle.serde_json.specs.View.{view};
-ghost use Rattle.std.specs.Prelude.{codes, option_map, option_and_then};
-ghost use Rattle.serde_json.specs.Find.{as_str};
-ghost use Rattle.identity_doc.specs.Documents.{all_of, allowed, key_in, of_type, visible};
+ghost use Rattle.identity_doc.specs.Documents.{all_of, allowed, key_in, said_visibility, visibility_of};
 ghost use Rattle.identity_doc.specs.declared.fault.DocFault.TheVariants.{BadVisibility, NoMemory};
 
 use crate::fault::DocFault;
@@ -61,11 +59,9 @@ fn allowed(alloc: Global, keyring: &Keyring, said: &Value) -> Result<Nids, DocFa
 // The visibility that is said.
 fn said_visibility(alloc: Global, keyring: &Keyring, said: &Value) -> Result<Visibility, DocFault>
     ensures read { IfOk result (λ visibility.
-        option_and_then (of_type keyring.now (view said.now))
-        (option_and_then as_str (get (codes "type") (view said.now))) ≡ Some visibility) }
+        said_visibility keyring.now (Some (view said.now)) ≡ Some visibility) }
     ensures refused { IfErr result (λ fault. fault ≢ NoMemory → (fault ≡ BadVisibility)
-        × (option_and_then (of_type keyring.now (view said.now))
-        (option_and_then as_str (get (codes "type") (view said.now))) ≡ None)) }
+        × (said_visibility keyring.now (Some (view said.now)) ≡ None)) }
 {
     match said.get("type").and_then(Value::as_str) {
         Some("public") => Ok(Visibility::Public),
@@ -78,14 +74,14 @@ fn said_visibility(alloc: Global, keyring: &Keyring, said: &Value) -> Result<Vis
 }
 
 /// The visibility of a document, public where nothing is said.
-pub(crate) fn visible(
+pub(crate) fn visibility_of(
     alloc: Global,
     keyring: &Keyring,
     value: &Value,
 ) -> Result<Visibility, DocFault>
-    ensures read { IfOk result (λ visibility. visible keyring.now (view value.now) ≡ Ok visibility) }
+    ensures read { IfOk result (λ visibility. visibility_of keyring.now (view value.now) ≡ Ok visibility) }
     ensures refused { IfErr result (λ fault.
-        fault ≢ NoMemory → visible keyring.now (view value.now) ≡ Err fault) }
+        fault ≢ NoMemory → visibility_of keyring.now (view value.now) ≡ Err fault) }
 {
     let Some(said) = value.get("visibility") else {
         return Ok(Visibility::Public);

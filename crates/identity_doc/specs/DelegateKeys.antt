@@ -1,0 +1,27 @@
+-- The keys of delegates and the first element that fails, said of the whole list.
+use Rattle.std.specs.Prelude.{◌≡◌, ◌≢◌, ℕ, List, [], ◌∷◌, ◌++◌, length, map, Contains, Option, Some, None}
+use Rattle.std.specs.List.{AllByRecursion}
+use Rattle.rad_base.specs.declared.names.Nid.{Nid}
+
+-- no key stands twice
+abbrev pub AllDiffer : List Nid → Type 0
+AllDiffer [] = Unit {0}
+AllDiffer (key ∷ keys) = AllByRecursion (λ other. key ≢ other) keys × AllDiffer keys
+
+-- element i, behind elements whose keys all differ, has no key
+pub record LacksKeyAt (i : ℕ) (found : List (Option Nid)) : Type 0 where
+  pub keys : List Nid
+  pub rest : List (Option Nid)
+  pub text : found ≡ map Some keys ++ None ∷ rest
+  pub differ : AllDiffer keys
+  pub count : i ≡ length keys
+
+-- element i, behind elements whose keys all differ, has the key of one of them
+pub record RepeatsAt (i : ℕ) (found : List (Option Nid)) : Type 0 where
+  pub keys : List Nid
+  pub key : Nid
+  pub rest : List (Option Nid)
+  pub text : found ≡ map Some keys ++ Some key ∷ rest
+  pub differ : AllDiffer keys
+  pub again : Contains keys key
+  pub count : i ≡ length keys
