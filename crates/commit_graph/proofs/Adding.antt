@@ -2,7 +2,7 @@
 use Rattle.std.proofs.Common.{◌≡◌, ℕ, ◌+◌, ◌<◌, Bool, true, false, cond, List, [], ◌∷◌, ◌++◌, length, take, get_or, Some, refl, sym, ap, subst, inl, inr, ◌⊎◌, ⊎_elim, ◌∙◌, append_assoc, append-nil, arith}
 use Rattle.std.specs.Prelude.{Contains, slice_get, map, filter}
 use Rattle.std.proofs.lemmas.List.{take_more, take-append-le}
-use Rattle.std.proofs.lemmas.List.Elements.{Contains-append_left, Contains-push, Contains-push_cases, Contains-append_cases, filter-append}
+use Rattle.std.proofs.lemmas.List.Elements.{Contains-append_left, Contains-append_right, Contains-push, Contains-push_cases, Contains-append_cases, filter-append}
 use Rattle.std.proofs.lemmas.Option.{slice_get_within, get_or_from_slice_get}
 use Rattle.commit_graph.proofs.Members.{contains_nothing}
 use Rattle.git_object.specs.declared.link.LinkTo.{LinkTo}
@@ -16,6 +16,26 @@ extends_same {X} {found} {found'} e = record {
   more = [];
   is = e ∙ sym (append-nil found);
   has = λ x c. absurd (contains_nothing x c);
+  from = λ x c. absurd (contains_nothing x c);
+}
+
+-- all of a list is added, though some of it was there
+pub extends_by : {X : Type 0} {found found' : List X} (xs : List X) → found' ≡ found ++ xs
+    → Extends found xs found'
+extends_by {X} {found} {found'} xs e = record {
+  more = xs;
+  is = e;
+  has = λ x c. subst (λ (ys : List X). Contains ys x) (sym e) (Contains-append_right found xs x c);
+  from = λ x c. c;
+}
+
+-- nothing is added, since all of it was there
+pub extends_there : {X : Type 0} {found found' : List X} (xs : List X) → found' ≡ found
+    → ((x : X) → Contains xs x → Contains found x) → Extends found xs found'
+extends_there {X} {found} {found'} xs e has = record {
+  more = [];
+  is = e ∙ sym (append-nil found);
+  has = λ x c. subst (λ (ys : List X). Contains ys x) (sym e) (has x c);
   from = λ x c. absurd (contains_nothing x c);
 }
 
@@ -56,12 +76,17 @@ map_push : {X Y : Type 0} (f : X → Y) (xs : List X) (x : X)
 map_push f [] x = refl
 map_push {X} {Y} f (y ∷ ys) x = ap (λ (zs : List Y). f y ∷ zs) (map_push f ys x)
 
+-- the images of one more item of a list
+pub image_more : {X Y : Type 0} (f : X → Y) (xs : List X) (i : ℕ) (d : X) → i < length xs
+    → map f (take (i + 1) xs) ≡ map f (take i xs) ++ f (get_or xs i d) ∷ []
+image_more f xs i d l = ap (map f) (take_more xs i d l) ∙ map_push f (take i xs) (get_or xs i d)
+
 -- one turn of a loop over the list whose images are added
 pub extends_image : {X Y : Type 0} (f : X → Y) {old cur new : List Y} (xs : List X) (i : ℕ) (d : X)
     → i < length xs → Extends old (map f (take i xs)) cur → Adds cur (f (get_or xs i d)) new
     → Extends old (map f (take (i + 1) xs)) new
 extends_image {X} {Y} f {old} {cur} {new} xs i d l h a =
-    subst (λ (ys : List Y). Extends old ys new) (sym (ap (map f) (take_more xs i d l) ∙ map_push f (take i xs) (get_or xs i d))) (extends_push h a)
+    subst (λ (ys : List Y). Extends old ys new) (sym (image_more f xs i d l)) (extends_push h a)
 
 -- the same, of lists that are equal
 pub extends_along : {X : Type 0} {old xs ys new new' : List X} → xs ≡ ys → new ≡ new'

@@ -13,7 +13,7 @@ use Rattle.commit_graph.specs.Objects.{ObjectMap, IsNamed}
 use Rattle.commit_graph.specs.Lists.{Extends, Follows}
 use Rattle.commit_graph.specs.Pairs.{IsMissing, IsFit, IsUnfit, IsLink, pair_of}
 use Rattle.commit_graph.specs.Looks.{HasLinks, IsLesser, Shows, answer_of}
-use Rattle.commit_graph.specs.Closures.{IsLeast, HasNone, IsReached, IsReachedAs, IsClosure}
+use Rattle.commit_graph.specs.Closures.{IsLeast, HasNone, IsHeld, IsReached, IsReachedAs, IsClosure}
 use Rattle.commit_graph.proofs.Adding.{extends_same, take_grown}
 use Rattle.commit_graph.proofs.LeastNames.{LeastSoFar, IsAmong, Noted, least_turn}
 use Rattle.commit_graph.proofs.PairSteps.{missing_unfit, missing_apart, unfit_apart, missing_ends, unfit_ends, nothing_follows, links_follow}
@@ -110,31 +110,51 @@ pub tally_more : {m : ObjectMap} (pairs : List Root) (i : ℕ) (d : Root) {missi
     → Tally m (take (i + 1) pairs) missing' unfit'
 tally_more pairs i d shown l s h n = tally_turn (take_more pairs i d l) (judges_shown shown s n) h
 
-module _ (m : ObjectMap) (roots done : List Root) (all : (p : Root) → Contains done p ↔ IsReached m roots p) where
-  least_reached : (P : Root → Type 0) (oid : Oid) → IsLeast (IsAmong P done) oid
-      → IsLeast (IsReachedAs m roots P) oid
-  least_reached P oid l = record {
-    holds = record { pair = l.holds.pair; reached = (all l.holds.pair).0 l.holds.here; holds = l.holds.holds; name = l.holds.name };
-    least = λ k f. l.least k (record { pair = f.pair; here = (all f.pair).1 f.reached; holds = f.holds; name = f.name });
+-- the pairs of a list are reached, and each other pair that is reached is held
+pub record Covers (m : ObjectMap) (roots done : List Root) : Type 0 where
+  pub sound : (p : Root) → Contains done p → IsReached m roots p
+  pub rest : (p : Root) → IsReached m roots p → Contains done p ⊎ IsHeld m p
+
+-- the list of all pairs that are reached
+pub covers_all : {m : ObjectMap} {roots done : List Root}
+    → ((p : Root) → Contains done p ↔ IsReached m roots p) → Covers m roots done
+covers_all all = record { sound = λ p c. (all p).0 c; rest = λ p r. inl ((all p).1 r) }
+
+module _ (m : ObjectMap) (roots done : List Root) (covers : Covers m roots done) where
+  here : (P : Root → Type 0) → ((p : Root) → P p → IsFit m p → ⊥) → (p : Root) → P p
+      → IsReached m roots p → Contains done p
+  here P apart p holds r = ⊎_elim (λ a. a) (λ a. absurd (apart p holds a.fit)) (covers.rest p r)
+
+  least_reached : (P : Root → Type 0) → ((p : Root) → P p → IsFit m p → ⊥) → (oid : Oid)
+      → IsLeast (IsAmong P done) oid → IsLeast (IsReachedAs m roots P) oid
+  least_reached P apart oid l = record {
+    holds = record { pair = l.holds.pair; reached = covers.sound l.holds.pair l.holds.here; holds = l.holds.holds; name = l.holds.name };
+    least = λ k f. l.least k (record { pair = f.pair; here = here P apart f.pair f.holds f.reached; holds = f.holds; name = f.name });
   }
 
-  none_reached : (P : Root → Type 0) → HasNone (IsAmong P done) → HasNone (IsReachedAs m roots P)
-  none_reached P l = λ k f. l k (record { pair = f.pair; here = (all f.pair).1 f.reached; holds = f.holds; name = f.name })
+  none_reached : (P : Root → Type 0) → ((p : Root) → P p → IsFit m p → ⊥)
+      → HasNone (IsAmong P done) → HasNone (IsReachedAs m roots P)
+  none_reached P apart l = λ k f. l k (record { pair = f.pair; here = here P apart f.pair f.holds f.reached; holds = f.holds; name = f.name })
 
-  -- all that is reached was judged: the answer is that of a closure
+  no_missing : HasNone (IsAmong (IsMissing m) done) → HasNone (IsReachedAs m roots (IsMissing m))
+  no_missing = none_reached (IsMissing m) (λ p h f. missing_unfit h f)
+
+  -- all that is reached was judged, or is held: the answer is that of a closure
   pub closure_answer : (missing unfit : Option Oid) → IsNamed m → Tally m done missing unfit
       → IsClosure m roots (answer_of missing unfit)
-  closure_answer (Some oid) unfit named h = least_reached (IsMissing m) oid h.least_missing
-  closure_answer None (Some oid) named h = (none_reached (IsMissing m) h.least_missing, least_reached (IsUnfit m) oid h.least_unfit)
+  closure_answer (Some oid) unfit named h = least_reached (IsMissing m) (λ p a f. missing_unfit a f) oid h.least_missing
+  closure_answer None (Some oid) named h = (no_missing h.least_missing, least_reached (IsUnfit m) (λ p a f. unfit_apart a f) oid h.least_unfit)
   closure_answer None None named h = λ p r.
-      let here = (all p).1 r in
       ⊎_elim
-      (λ a. absurd (h.least_missing p.oid (record { pair = p; here = here; holds = a; name = refl })))
+      (λ c. ⊎_elim
+      (λ a. absurd (h.least_missing p.oid (record { pair = p; here = c; holds = a; name = refl })))
       (λ a. ⊎_elim
-      (λ b. absurd (h.least_unfit p.oid (record { pair = p; here = here; holds = b; name = refl })))
+      (λ b. absurd (h.least_unfit p.oid (record { pair = p; here = c; holds = b; name = refl })))
       (λ b. record { fit = b; named = named p.oid (b.kind, b.bytes) b.there })
       a)
-      (h.judged p here)
+      (h.judged p c))
+      (λ held. held)
+      (covers.rest p r)
 
 -- one turn of the walk: the pair was looked up, its links were added, and its name was noted
 pub record Turned (m : ObjectMap) (x : Root) (found : List Root) (missing unfit : Option Oid) (found' : List Root) (missing' unfit' : Option Oid) : Type 0 where

@@ -1,8 +1,12 @@
 pub mod Adding
+pub mod BeyondTurns
+pub mod BeyondWalks
 pub mod Causes
 pub mod ChainLines
 pub mod ClosureTurns
+pub mod FactsHold
 pub mod HistoryWalks
+pub mod Learned
 pub mod LeastNames
 pub mod Marks
 pub mod Members
@@ -11,5 +15,6 @@ pub mod Named
 pub mod PairOrder
 pub mod PairSteps
 pub mod Prefixes
+pub mod Repeats
 pub mod Spread
 pub mod Walked

@@ -1,12 +1,12 @@
 -- A set that is told the names of pairs, and its names in order.
-use Rattle.std.proofs.Common.{◌≡◌, ℕ, ◌+◌, ◌<◌, Bool, true, cond, List, [], ◌∷◌, ◌++◌, length, take, get_or, sym, ap, subst, inl, inr, ◌⊎◌, ⊎_elim, ◌∙◌}
+use Rattle.std.proofs.Common.{◌≡◌, ℕ, ◌+◌, ◌<◌, Bool, true, cond, List, [], ◌∷◌, ◌++◌, length, take, drop, get_or, sym, ap, subst, inl, inr, ◌⊎◌, ⊎_elim, ◌∙◌}
 use Rattle.std.specs.Prelude.{Contains, IsTrue, ◌↔◌}
 use Rattle.std.specs.BTreeSet.{BTreeSet, contains, IsOrdered}
 use Rattle.std.specs.BTreeMap.{is_at}
 use Rattle.std.specs.List.Sorted.{IsStrictlySortedBy}
 use Rattle.std.proofs.lemmas.Cmp.{eq_by_cmp_equiv}
 use Rattle.std.proofs.lemmas.Bool.{cases_Bool}
-use Rattle.std.proofs.lemmas.List.{take_more}
+use Rattle.std.proofs.lemmas.List.{take_more, take-append-drop}
 use Rattle.std.proofs.lemmas.List.Elements.{Contains-append_left, Contains-push, Contains-push_cases}
 use Rattle.std.proofs.lemmas.Map.Views.{tells_apart, btree_set_contains_iff}
 use Rattle.rad_base.specs.declared.names.Oid.{Oid}
@@ -52,6 +52,13 @@ pub told_more : (old now new : BTreeSet Oid) (pairs : List Root) (i : ℕ) (d : 
 told_more old now new pairs i d l u h =
     subst (λ (xs : List Root). IsTold old new xs) (sym (take_more pairs i d l)) (told_push old now new (take i pairs) (get_or pairs i d) u h)
 
+-- names of the first pairs are names of the pairs
+pub has_taken : {T : Type 0} (pairs : List Root) (i : ℕ) (oid : Oid) → T ⊎ HasName (take i pairs) oid
+    → T ⊎ HasName pairs oid
+has_taken pairs i oid (inl a) = inl a
+has_taken pairs i oid (inr h) =
+    inr (h.0, subst (λ (xs : List Root). Contains xs h.0) (take-append-drop i pairs) (Contains-append_left (take i pairs) (drop i pairs) h.0 h.1), h.2)
+
 -- the keys of a set rise
 pub keys_rise : (set : BTreeSet Oid) (items : List Oid) → items ≡ set.keys → IsOrdered oid_cmp set
     → IsStrictlySortedBy oid_cmp items
@@ -59,13 +66,16 @@ keys_rise set items e o = subst (IsStrictlySortedBy oid_cmp) (sym e) o
 
 -- the keys of a set that began empty are the names of the pairs
 pub keys_are : (old set : BTreeSet Oid) (items : List Oid) (pairs : List Root) → old.keys ≡ []
-    → items ≡ set.keys → IsTold old set pairs → (oid : Oid) → Contains items oid ↔ HasName pairs oid
-keys_are old set items pairs empty e told oid =
+    → items ≡ set.keys
+    → ((oid : Oid) → IsTrue (contains oid_cmp set oid) → IsTrue (contains oid_cmp old oid) ⊎ HasName pairs oid)
+    → ((oid : Oid) → HasName pairs oid → IsTrue (contains oid_cmp set oid)) → (oid : Oid)
+    → Contains items oid ↔ HasName pairs oid
+keys_are old set items pairs empty e only all oid =
     let now = btree_set_contains_iff oid_total oid_exact set oid in
     let before = btree_set_contains_iff oid_total oid_exact old oid in (
       λ c. ⊎_elim (λ a. absurd (contains_nothing oid (subst (λ (xs : List Oid). Contains xs oid) empty (before.0 a)))) (λ a. a)
-          ((told oid).0 (now.1 (subst (λ (xs : List Oid). Contains xs oid) e c))),
-      λ h. subst (λ (xs : List Oid). Contains xs oid) (sym e) (now.0 ((told oid).1 (inr h))),
+          (only oid (now.1 (subst (λ (xs : List Oid). Contains xs oid) e c))),
+      λ h. subst (λ (xs : List Oid). Contains xs oid) (sym e) (now.0 (all oid h)),
     )
 
 -- the names of the pairs that are found are the names that are reached

@@ -36,3 +36,9 @@ pub reached_stays : {X : Type 0} {Step : X → X → Type 0} {roots : List X} (S
     → ((x : X) → Contains roots x → S x) → ((x y : X) → S x → Step x y → S y) → (x : X)
     → Reached Step roots x → S x
 reached_stays S rooted closed x h = walk_stays S closed h.root h.path x (rooted h.root h.among) h.walk
+
+-- what is reached by some steps is reached by all steps among which they are
+pub reached_along : {X : Type 0} {Step Other : X → X → Type 0} {roots : List X}
+    → ((x y : X) → Step x y → Other x y) → (x : X) → Reached Step roots x → Reached Other roots x
+reached_along {X} {Step} {Other} {roots} more =
+    reached_stays (Reached Other roots) (λ x c. reached_root x c) (λ x y h s. reached_step x y h (more x y s))

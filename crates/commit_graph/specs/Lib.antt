@@ -1,5 +1,7 @@
+pub mod Beyond
 pub mod Chains
 pub mod Closures
+pub mod Facts
 pub mod Faults
 pub mod Histories
 pub mod InMemory

@@ -2,8 +2,10 @@
 #![tactic(auto)]
 
 pub mod answer;
+mod beyond;
 mod chains;
 mod closing;
+mod facts;
 mod fault;
 mod follow;
 mod held;
@@ -18,6 +20,7 @@ mod root;
 mod tests;
 mod visited;
 
+pub use beyond::closure_beyond;
 pub use chains::{ChainFault, chain};
 pub use closing::{closure, lesser};
 pub use fault::{Changed, GetFault};

@@ -17,8 +17,8 @@ pub(crate) enum Looked {
     Fit(Vec<LinkTo>),
 }
 
-// Reads the links of an object.
-fn read(alloc: Global, kind: Kind, bytes: &[u8]) -> Result<Looked, GetFault>
+/// Reads the links of an object.
+pub(crate) fn read(alloc: Global, kind: Kind, bytes: &[u8]) -> Result<Looked, GetFault>
     ensures read { IfOk result (Reads kind bytes.now) }
     ensures refused { IfErr result (λ fault. fault ≡ GetFault.NoMemory) }
 {

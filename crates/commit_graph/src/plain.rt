@@ -53,7 +53,7 @@ fn add_links_of<O: Objects>(
     }
 }
 
-fn pair_at(list: &[Root], i: usize) -> Root
+pub(crate) fn pair_at(list: &[Root], i: usize) -> Root
     requires { i < length list.now }
     ensures { slice_get list.now i ≡ Some result }
 {

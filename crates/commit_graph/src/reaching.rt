@@ -33,10 +33,14 @@ fn walk<O: Objects>(alloc: Global, objects: &mut O, roots: &[Root]) -> Result<Vi
     Ok(found)
 }
 
-// Adds the names of the pairs.
-fn add_names(names: &mut BTreeSet<Oid>, pairs: &[Root]) -> Result<(), AllocError>
-    ensures { OnOk result ((oid : Oid) → IsTrue (contains oid_cmp names.new oid)
-        ↔ (IsTrue (contains oid_cmp names.old oid) ⊎ HasName pairs.now oid)) }
+/// Adds the names of the pairs; only some of them where memory is refused.
+pub(crate) fn add_names(names: &mut BTreeSet<Oid>, pairs: &[Root]) -> Result<(), AllocError>
+    ensures all { OnOk result ((oid : Oid) → HasName pairs.now oid
+        → IsTrue (contains oid_cmp names.new oid)) }
+    ensures only { (oid : Oid) → IsTrue (contains oid_cmp names.new oid)
+        → IsTrue (contains oid_cmp names.old oid) ⊎ HasName pairs.now oid }
+    ensures kept { (oid : Oid) → IsTrue (contains oid_cmp names.old oid)
+        → IsTrue (contains oid_cmp names.new oid) }
 {
     for pair in pairs {
         names.insert(pair.oid)?;

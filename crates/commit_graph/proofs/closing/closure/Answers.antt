@@ -8,7 +8,7 @@ use Rattle.commit_graph.specs.Pairs.{pair_of}
 use Rattle.commit_graph.specs.Looks.{Shows}
 use Rattle.commit_graph.specs.Closures.{IsClosure}
 use Rattle.commit_graph.proofs.Adding.{extends_along}
-use Rattle.commit_graph.proofs.ClosureTurns.{progress_turn, turned_missing, turned_unfit, turned_fit, closure_answer, Tally}
+use Rattle.commit_graph.proofs.ClosureTurns.{progress_turn, turned_missing, turned_unfit, turned_fit, covers_all, closure_answer, Tally}
 use Rattle.commit_graph.proofs.Spread.{spread_all}
 use Rattle.commit_graph.proofs.closing.closure.Goals as goal
 use Rattle.commit_graph.proofs.closing.closure.Goals.{in-Missing, in-Unfit, in-Fit+in_ok-follow-in-Fit}
@@ -35,5 +35,5 @@ returns-clause-told g c = λ m e.
     let all : take c.loop-i.i c.loop-i.found ≡ c.loop-i.found = take_all c.loop-i.i c.loop-i.found (omega arith) in
     let h = c.loop-i.invariant.progress m e in
     subst (λ (answer : Closure). IsClosure m c.args.roots.now answer) (sym c.answer.ensures)
-    (closure_answer m c.args.roots.now c.loop-i.found (spread_all h.spread all) c.loop-i.missing c.loop-i.unfit
+    (closure_answer m c.args.roots.now c.loop-i.found (covers_all (spread_all h.spread all)) c.loop-i.missing c.loop-i.unfit
     (g.met.O.Objects.named c.args.objects.now m e) (subst (λ (done : List Root). Tally m done c.loop-i.missing c.loop-i.unfit) all h.tally))

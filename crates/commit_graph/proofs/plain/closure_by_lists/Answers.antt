@@ -4,7 +4,7 @@ use Rattle.std.proofs.lemmas.List.{take_all}
 use Rattle.commit_graph.specs.declared.root.Root.{Root}
 use Rattle.commit_graph.specs.declared.answer.Closure.{Closure}
 use Rattle.commit_graph.specs.Closures.{IsClosure, IsReached}
-use Rattle.commit_graph.proofs.ClosureTurns.{Tally, tally_start, tally_more, notes, closure_answer}
+use Rattle.commit_graph.proofs.ClosureTurns.{Tally, tally_start, tally_more, notes, covers_all, closure_answer}
 use Rattle.commit_graph.proofs.plain.closure_by_lists.Goals as goal
 use Rattle.commit_graph.proofs.plain.closure_by_lists.Goals.{in-Missing, in-Unfit, in-Fit}
 
@@ -38,5 +38,5 @@ returns-clause-told g c = λ m e.
     let reached : (p : Root) → Contains pairs p ↔ IsReached m c.args.roots.now p = λ p.
     subst (λ (xs : List Root). Contains xs p ↔ IsReached m c.args.roots.now p) (sym c.deref-pair-items.ensures.value) (c.in_ok-pairs.ensures.told m e p) in
     subst (λ (answer : Closure). IsClosure m c.args.roots.now answer) (sym c.answer.ensures)
-    (closure_answer m c.args.roots.now pairs reached c.loop-pair.missing c.loop-pair.unfit (g.met.O.Objects.named c.args.objects.now m e)
+    (closure_answer m c.args.roots.now pairs (covers_all reached) c.loop-pair.missing c.loop-pair.unfit (g.met.O.Objects.named c.args.objects.now m e)
     (subst (λ (done : List Root). Tally m done c.loop-pair.missing c.loop-pair.unfit) whole (c.loop-pair.invariant.tally m e)))

@@ -1,0 +1,78 @@
+use Rattle.std.proofs.Common.{◌≡◌, List, ◌++◌, map, Some, slice_get, take, sym, subst, ap, refl, ◌∙◌, arith}
+use Rattle.std.proofs.lemmas.List.{take_all}
+use Rattle.std.proofs.lemmas.Option.{slice_get_within}
+use Rattle.git_object.specs.declared.link.LinkTo.{LinkTo}
+use Rattle.commit_graph.specs.declared.root.Root.{Root}
+use Rattle.commit_graph.specs.declared.answer.Closure.{Closure}
+use Rattle.commit_graph.specs.Pairs.{pair_of}
+use Rattle.commit_graph.specs.Closures.{IsClosure}
+use Rattle.commit_graph.proofs.Spread.{spread_all}
+use Rattle.commit_graph.proofs.ClosureTurns.{Tally, notes, closure_answer}
+use Rattle.commit_graph.proofs.BeyondTurns.{search_start, search_turn, appends}
+use Rattle.commit_graph.proofs.BeyondWalks.{covers_beyond, cost_within, has_root}
+use Rattle.commit_graph.proofs.beyond.search.Goals as goal
+use Rattle.commit_graph.proofs.beyond.search.Goals.{in-Missing, in-Unfit, in-Fit+in_ok-append-in-Fit}
+
+pub loop-i-init : goal.loop-i-init
+loop-i-init g c = record {
+  kept = refl;
+  beside = refl;
+  rising = omega arith;
+  progress = λ m e. search_start m c.args.known.now c.args.roots.now c.in_ok-queue.queue.items c.new-facts.result c.args.steps.now c.in_ok-queue.ensures.items c.new-facts.ensures.facts c.new-facts.ensures.waiting;
+}
+
+pub returns-in_err-meet-clause-cost : goal.returns-in_err-meet-clause-cost
+returns-in_err-meet-clause-cost g c = λ m e names cover.
+    let at : slice_get c.loop-i.queue.items c.loop-i.i ≡ Some c.pair_at-pair.result = subst (λ (xs : List Root). slice_get xs c.loop-i.i ≡ Some c.pair_at-pair.result) c.deref.ensures.value c.pair_at-pair.ensures in
+    let h = c.loop-i.invariant.progress m e in
+    let within = slice_get_within c.loop-i.queue.items c.loop-i.i c.pair_at-pair.result at in
+    omega (arith, within, cost_within m _ _ _ _ _ _ _ _ _ h names cover, has_root m _ _ _ _ _ _ _ _ _ h c.pair_at-pair.result at, c.in_err-meet.ensures.cost)
+
+pub returns-in_err-append-in-Fit-clause-cost : goal.returns-in_err-append-in-Fit-clause-cost
+returns-in_err-append-in-Fit-clause-cost g c = λ m e names cover.
+    let at : slice_get c.loop-i.queue.items c.loop-i.i ≡ Some c.pair_at-pair.result = subst (λ (xs : List Root). slice_get xs c.loop-i.i ≡ Some c.pair_at-pair.result) c.deref.ensures.value c.pair_at-pair.ensures in
+    let h = c.loop-i.invariant.progress m e in
+    let within = slice_get_within c.loop-i.queue.items c.loop-i.i c.pair_at-pair.result at in
+    omega (arith, within, cost_within m _ _ _ _ _ _ _ _ _ h names cover, has_root m _ _ _ _ _ _ _ _ _ h c.pair_at-pair.result at, c.in_ok-meet.ensures.cost)
+
+pub loop-i-preserved : goal.loop-i-preserved
+loop-i-preserved g c = record {
+  kept = c.in_ok-meet.ensures.kept ∙ c.loop-i.invariant.kept;
+  beside = c.in_ok-meet.ensures.beside ∙ c.loop-i.invariant.beside;
+  rising = omega (arith, c.in_ok-meet.ensures.cause.later, c.loop-i.invariant.rising);
+  progress = λ m e.
+      let at : slice_get c.loop-i.queue.items c.loop-i.i ≡ Some c.pair_at-pair.result = subst (λ (xs : List Root). slice_get xs c.loop-i.i ≡ Some c.pair_at-pair.result) c.deref.ensures.value c.pair_at-pair.ensures in
+      search_turn c.pair_at-pair.result (c.requires m e) at (c.loop-i.invariant.progress m e)
+      (c.in_ok-meet.ensures.told m (c.loop-i.invariant.kept ∙ e))
+      (elim c.match-branch-3.branch [
+        | in-Missing w ↦ notes _ _ _ _ _ w.in-Missing.is ((_, w.missing-is, w.lesser.ensures), w.unfit-is)
+        | in-Unfit w ↦ notes _ _ _ _ _ w.in-Unfit.is (w.missing-is, (_, w.unfit-is, w.lesser-in-Unfit.ensures))
+        | in-Fit+in_ok-append-in-Fit w ↦ notes _ _ _ _ _ w.in-Fit.is (w.missing-is, w.unfit-is)
+      ])
+      (elim c.match-branch-3.branch [
+        | in-Missing w ↦ appends _ _ w.in-Missing.is (ap (λ v. v.items) w.queue-is)
+        | in-Unfit w ↦ appends _ _ w.in-Unfit.is (ap (λ v. v.items) w.queue-is)
+        | in-Fit+in_ok-append-in-Fit w ↦ appends _ _ w.in-Fit.is (ap (λ v. v.items) w.queue-is ∙ w.in_ok-append-in-Fit.ensures
+            ∙ ap (λ (links : List LinkTo). c.loop-i.queue.items ++ map pair_of links) w.as_slice.ensures.value)
+      ]);
+}
+
+pub returns-clause-told : goal.returns-clause-told
+returns-clause-told g c = λ m e.
+    let queue = c.loop-i.queue.items in
+    let whole : take c.loop-i.i queue ≡ queue = take_all c.loop-i.i queue (omega (arith, c.loop-i.queue.ok.0)) in
+    let h = c.loop-i.invariant.progress m e in
+    subst (λ (answer : Closure). IsClosure m c.args.roots.now answer) (sym c.answer.ensures)
+    (closure_answer m c.args.roots.now queue (covers_beyond (c.requires m e) h.spread whole) c.loop-i.missing c.loop-i.unfit
+    (g.met.O.Objects.named c.args.objects.now m e) (subst (λ (done : List Root). Tally m done c.loop-i.missing c.loop-i.unfit) whole h.tally))
+
+pub returns-clause-reach : goal.returns-clause-reach
+returns-clause-reach g c = λ m e.
+    let queue = c.loop-i.queue.items in
+    let whole : take c.loop-i.i queue ≡ queue = take_all c.loop-i.i queue (omega (arith, c.loop-i.queue.ok.0)) in
+    spread_all (c.loop-i.invariant.progress m e).spread whole
+
+pub returns-clause-cost : goal.returns-clause-cost
+returns-clause-cost g c = λ m e names cover.
+    let h = c.loop-i.invariant.progress m e in
+    omega (arith, cost_within m _ _ _ _ _ _ _ _ _ h names cover, h.within)

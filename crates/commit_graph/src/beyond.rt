@@ -1,0 +1,166 @@
+// A closure that does not walk again what is known to be closed.
+ghost use Rattle.std.specs.Prelude.{◌≡◌, ◌≤◌, ◌+◌, ◌*◌, ◌++◌, ◌↔◌, ◌⊎◌, List, length, map, sum_by, Contains, IsTrue, IfOk, OnOk};
+ghost use Rattle.std.specs.Option.{ForSome};
+ghost use Rattle.commit_graph.specs.Faults.{HasCause};
+ghost use Rattle.commit_graph.specs.Pairs.{pair_of};
+ghost use Rattle.commit_graph.specs.Walks.{Reached};
+ghost use Rattle.commit_graph.specs.Closures.{IsClosure};
+ghost use Rattle.commit_graph.specs.Beyond.{AllClosed, IsLinkBeyond, CoversBeyond, link_count, GrowsBeyond, Leaves};
+ghost use Rattle.commit_graph.specs.Facts.{IsAccepted, IsMet};
+
+use crate::answer::Closure;
+use crate::closing::{answer, lesser};
+use crate::facts::{Fact, Facts};
+use crate::look::Looked;
+use crate::plain::pair_at;
+use crate::reaching::add_names;
+use crate::root::{is_expected, pair_of};
+use crate::{GetFault, Objects, Root};
+use git_object::LinkTo;
+use rad_base::{Oid, Steps};
+use std::alloc::{AllocError, Global};
+use std::collections::BTreeSet;
+use std::sync::ledger::Ledger;
+
+// Whether a pair has an object, of the expected kind.
+fn is_accepted<O: Objects>(objects: &mut O, pair: Root) -> Result<bool, GetFault>
+    ensures told { ForSome (O.content objects.old) (λ m. IfOk result (λ is. IsTrue is ↔ IsAccepted m pair)) }
+    ensures kept { O.content objects.new ≡ O.content objects.old }
+    ensures beside { O.beside objects.new ≡ O.beside objects.old }
+    ensures cause { HasCause (O.content objects.old) (O.faults objects.old) (O.faults objects.new) result }
+{
+    match objects.get(&pair.oid) {
+        Err(fault) => Err(fault),
+        Ok(None) => Ok(false),
+        Ok(Some((kind, _))) => Ok(is_expected(pair.kind, kind)),
+    }
+}
+
+/// What the test of a pair shows, which is one step, with the links that are followed from it now:
+/// those of a known name never, those of another once.
+fn meet<O: Objects, L: Ledger>(
+    alloc: Global,
+    objects: &mut O,
+    known: &BTreeSet<Oid>,
+    facts: &mut Facts,
+    pair: Root,
+    steps: &mut Steps<L>,
+) -> Result<Looked, GetFault>
+    ensures told { ForSome (O.content objects.old) (λ m. IfOk result
+        (λ looked. IsMet m known.now pair facts.old facts.new looked steps.old steps.new)) }
+    ensures kept { O.content objects.new ≡ O.content objects.old }
+    ensures beside { O.beside objects.new ≡ O.beside objects.old }
+    ensures cause { HasCause (O.content objects.old) (O.faults objects.old) (O.faults objects.new) result }
+    ensures cost { steps.new ≤ steps.old + 2 }
+    ensures counted { steps.old ≤ steps.new }
+{
+    steps.tick();
+    if known.contains(&pair.oid) {
+        return if is_accepted(objects, pair)? {
+            Ok(Looked::Fit(Vec::new(alloc)))
+        } else {
+            Ok(Looked::Unfit)
+        };
+    }
+    match facts.learn(alloc, objects, pair.oid, steps)? {
+        Fact::Missing => Ok(Looked::Missing),
+        Fact::Malformed => Ok(Looked::Unfit),
+        Fact::Formed(kind) => {
+            if !is_expected(pair.kind, kind) {
+                return Ok(Looked::Unfit);
+            }
+            Ok(Looked::Fit(facts.take_links(alloc, pair.oid)))
+        }
+    }
+}
+
+// Adds the pairs of the links at the end.
+fn append(queue: &mut Vec<Root>, links: &[LinkTo]) -> Result<(), AllocError>
+    ensures { OnOk result (queue.new.items ≡ queue.old.items ++ map pair_of links.now) }
+{
+    for link in links {
+        queue.push(pair_of(*link))?;
+    }
+    Ok(())
+}
+
+/// What a walk comes to that stops at known names, with the pairs that it tested.
+#[derive(Drop)]
+struct Searched {
+    answer: Closure,
+    pairs: Vec<Root>,
+}
+
+fn search<O: Objects, L: Ledger>(
+    alloc: Global,
+    objects: &mut O,
+    known: &BTreeSet<Oid>,
+    roots: &[Root],
+    steps: &mut Steps<L>,
+) -> Result<Searched, GetFault>
+    requires { ForSome (O.content objects.old) (λ m. AllClosed m known.now) }
+    ensures told { ForSome (O.content objects.old) (λ m. IfOk result (λ s. IsClosure m roots.now s.answer)) }
+    ensures reach { ForSome (O.content objects.old) (λ m. IfOk result (λ s. (pair : Root)
+        → Contains s.pairs.items pair ↔ Reached (IsLinkBeyond m known.now) roots.now pair)) }
+    ensures cost { ForSome (O.content objects.old) (λ m. (names : List Oid)
+        → CoversBeyond m known.now roots.now names
+        → steps.new ≤ steps.old + length names + sum_by (link_count m) names + 2 * length roots.now) }
+    ensures kept { O.content objects.new ≡ O.content objects.old }
+    ensures beside { O.beside objects.new ≡ O.beside objects.old }
+    ensures cause { HasCause (O.content objects.old) (O.faults objects.old) (O.faults objects.new) result }
+{
+    let mut facts = Facts::new(alloc);
+    let mut queue = Vec::from_slice(alloc, roots)?;
+    let mut missing = None;
+    let mut unfit = None;
+    let mut i = 0;
+    while i < queue.len() {
+        let pair = pair_at(&queue, i);
+        match meet(alloc, objects, known, &mut facts, pair, steps)? {
+            Looked::Missing => missing = Some(lesser(missing, pair.oid)),
+            Looked::Unfit => unfit = Some(lesser(unfit, pair.oid)),
+            Looked::Fit(links) => append(&mut queue, links.as_slice())?,
+        }
+        i += 1;
+    }
+    Ok(Searched {
+        answer: answer(missing, unfit),
+        pairs: queue,
+    })
+}
+
+/// Whether all that the roots reach is there, of its expected kind and well formed, as `closure`
+/// tells it, with no walk over the names that are known to be closed, each as the kind of its
+/// object.
+///
+/// At `Closed` the names that a walk from the roots reaches over no known name are known too; after
+/// want of memory some of them may be; after any other answer the known names are as before.
+///
+/// A step is one look-up of an object or one test of a link, which at a known name includes the look
+/// at its object's kind. Where the objects are told there are at most as many as the names that are
+/// so reached and were not known, and the links of their objects, and twice the roots.
+pub fn closure_beyond<O: Objects, L: Ledger>(
+    alloc: Global,
+    objects: &mut O,
+    known: &mut BTreeSet<Oid>,
+    roots: &[Root],
+    steps: &mut Steps<L>,
+) -> Result<Closure, GetFault>
+    requires { ForSome (O.content objects.old) (λ m. AllClosed m known.old) }
+    ensures told { ForSome (O.content objects.old) (λ m. IfOk result (IsClosure m roots.now)) }
+    ensures grown { ForSome (O.content objects.old) (λ m. IfOk result (GrowsBeyond m known.old roots.now known.new)) }
+    ensures left { Leaves result known.old known.new }
+    ensures closed { ForSome (O.content objects.old) (λ m. AllClosed m known.new) }
+    ensures cost { ForSome (O.content objects.old) (λ m. (names : List Oid)
+        → CoversBeyond m known.old roots.now names
+        → steps.new ≤ steps.old + length names + sum_by (link_count m) names + 2 * length roots.now) }
+    ensures kept { O.content objects.new ≡ O.content objects.old }
+    ensures beside { O.beside objects.new ≡ O.beside objects.old }
+    ensures cause { HasCause (O.content objects.old) (O.faults objects.old) (O.faults objects.new) result }
+{
+    let found = search(alloc, objects, known, roots, steps)?;
+    if let Closure::Closed = found.answer {
+        add_names(known, found.pairs.as_slice())?;
+    }
+    Ok(found.answer)
+}
