@@ -1,5 +1,5 @@
 -- A walk beyond the known names, turn by turn.
-use Rattle.std.proofs.Common.{◌≡◌, ℕ, ◌+◌, ◌≤◌, false, List, [], ◌∷◌, ◌++◌, length, take, map, Option, Some, None, refl, sym, ap, subst, inl, inr, ◌⊎◌, ⊎_elim, ◌∙◌, arith, append-nil, length-append}
+use Rattle.std.proofs.Common.{◌≡◌, ℕ, ◌+◌, ◌≤◌, false, List, [], ◌∷◌, ◌++◌, length, take, map, Option, Some, None, refl, sym, ap, subst, inl, inr, ⊎_elim, ◌∙◌, arith, append-nil, length-append}
 use Rattle.std.specs.Prelude.{Contains, slice_get}
 use Rattle.std.specs.BTreeSet.{BTreeSet, contains}
 use Rattle.std.proofs.lemmas.Option.{slice_get_within}
@@ -16,14 +16,14 @@ use Rattle.commit_graph.specs.declared.facts.Fact.TheVariants.{Missing, Malforme
 use Rattle.commit_graph.specs.declared.facts.Facts.{Facts}
 use Rattle.commit_graph.specs.Objects.{Object, ObjectMap}
 use Rattle.commit_graph.specs.Lists.{Extends, Follows}
-use Rattle.commit_graph.specs.Pairs.{Accepts, IsMissing, IsFit, IsUnfit, IsLink, pair_of}
+use Rattle.commit_graph.specs.Pairs.{Accepts, IsMissing, IsFit, IsUnfit, pair_of}
 use Rattle.commit_graph.specs.Looks.{HasLinks}
 use Rattle.commit_graph.specs.Beyond.{IsClosedName, AllClosed, IsLinkBeyond, links_in}
-use Rattle.commit_graph.specs.Facts.{IsFact, IsMalformed, IsFormed, IsAccepted, IsFitWith, IsTaken, ShowsFact, IsMet, IsMetKnown, IsMetNew, fact_in, waiting_in, items_of}
+use Rattle.commit_graph.specs.Facts.{IsFormed, IsAccepted, IsFitWith, IsTaken, ShowsFact, IsMet, IsMetKnown, fact_in, waiting_in, items_of}
 use Rattle.commit_graph.proofs.Members.{contains_at, contains_head, contains_nothing}
 use Rattle.commit_graph.proofs.Adding.{extends_by, extends_there, take_grown}
 use Rattle.commit_graph.proofs.Walked.{reached_root}
-use Rattle.commit_graph.proofs.Spread.{Spread, spread_start, spread_follows}
+use Rattle.commit_graph.proofs.Spread.{Spread, spread_follows}
 use Rattle.commit_graph.proofs.PairSteps.{one_object, links_all, links_only, missing_ends, unfit_ends, nothing_follows}
 use Rattle.commit_graph.proofs.ClosureTurns.{Judges, Notes, Tally, judges_missing, judges_unfit, judges_fit, tally_start, tally_turn}
 use Rattle.commit_graph.proofs.FactsHold.{FactsHold, AreLearned, learned, links_open, facts_alike, waiting_stays, none_or_some}

@@ -1,10 +1,10 @@
 -- The line of commits from a tip, and the chain that it is from its end.
-use Rattle.std.proofs.Common.{◌≡◌, ℕ, List, [], ◌∷◌, ◌++◌, ◌≤◌, ◌<◌, refl, sym, ap, subst, inl, inr, ⊎_elim, ◌∙◌, reverse, length, slice_index_or, arith}
-use Rattle.std.specs.Prelude.{Contains, map, filter, Some, None, Option, ◌⊎◌}
+use Rattle.std.proofs.Common.{◌≡◌, List, [], ◌∷◌, ◌++◌, ◌≤◌, ◌<◌, refl, sym, ap, subst, inl, inr, ⊎_elim, ◌∙◌, reverse, length, slice_index_or, arith}
+use Rattle.std.specs.Prelude.{Contains, map, filter, Some, None, ◌⊎◌}
 use Rattle.std.proofs.lemmas.List.{map-append, reverse-append}
 use Rattle.std.proofs.lemmas.List.Elements.{Contains-push_cases}
 use Rattle.git_object.specs.declared.kind.Kind.{Kind}
-use Rattle.git_object.specs.declared.kind.Kind.TheVariants.{Blob, Tree, Commit, Tag}
+use Rattle.git_object.specs.declared.kind.Kind.TheVariants.{Commit}
 use Rattle.git_object.specs.declared.link.LinkTo.{LinkTo}
 use Rattle.git_object.specs.Links.{links, IsWellFormed}
 use Rattle.rad_base.specs.declared.names.Oid.{Oid}
@@ -16,9 +16,9 @@ use Rattle.commit_graph.specs.Looks.{HasLinks, Shows}
 use Rattle.commit_graph.specs.Objects.{Object, ObjectMap}
 use Rattle.commit_graph.specs.Pairs.{IsLink, IsFit, as_commit, pair_of, oid_of, is_commit_link}
 use Rattle.commit_graph.specs.Lists.{Adds}
-use Rattle.commit_graph.specs.Walks.{Walk, Reached}
-use Rattle.commit_graph.specs.Closures.{IsClosed, IsHeld, IsReached}
-use Rattle.commit_graph.specs.Chains.{HasParents, IsOnlyParent, IsChain, IsLine, IsFork, IsReturn, NoRepeat, parents_in}
+use Rattle.commit_graph.specs.Walks.{Walk}
+use Rattle.commit_graph.specs.Closures.{IsClosed, IsReached}
+use Rattle.commit_graph.specs.Chains.{HasParents, IsOnlyParent, IsChain, IsLine, IsReturn, NoRepeat, parents_in}
 use Rattle.commit_graph.proofs.PairSteps.{commit_kind, one_object, unfit_apart}
 use Rattle.commit_graph.proofs.Walked.{walk_push, reached_root, reached_step}
 

@@ -5,7 +5,7 @@ use Rattle.std.proofs.lemmas.List.{take_more}
 use Rattle.std.proofs.lemmas.List.Elements.{Contains-push_cases}
 use Rattle.git_object.specs.declared.link.LinkTo.{LinkTo}
 use Rattle.rad_base.specs.declared.names.Oid.{Oid}
-use Rattle.commit_graph.proofs.Members.{contains_nothing, contains_at}
+use Rattle.commit_graph.proofs.Members.{contains_nothing}
 use Rattle.commit_graph.specs.declared.root.Root.{Root}
 use Rattle.commit_graph.specs.declared.look.Looked.{Looked}
 use Rattle.commit_graph.specs.declared.look.Looked.TheVariants as looked
@@ -14,7 +14,7 @@ use Rattle.commit_graph.specs.Lists.{Extends, Follows}
 use Rattle.commit_graph.specs.Pairs.{IsMissing, IsFit, IsUnfit, IsLink, pair_of}
 use Rattle.commit_graph.specs.Looks.{HasLinks, IsLesser, Shows, answer_of}
 use Rattle.commit_graph.specs.Closures.{IsLeast, HasNone, IsHeld, IsReached, IsReachedAs, IsClosure}
-use Rattle.commit_graph.proofs.Adding.{extends_same, take_grown}
+use Rattle.commit_graph.proofs.Adding.{take_grown}
 use Rattle.commit_graph.proofs.LeastNames.{LeastSoFar, IsAmong, Noted, least_turn}
 use Rattle.commit_graph.proofs.PairSteps.{missing_unfit, missing_apart, unfit_apart, missing_ends, unfit_ends, nothing_follows, links_follow}
 use Rattle.commit_graph.proofs.Spread.{Spread, spread_start, spread_follows}

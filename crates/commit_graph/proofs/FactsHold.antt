@@ -21,7 +21,7 @@ use Rattle.commit_graph.specs.Pairs.{pair_of}
 use Rattle.commit_graph.specs.Chains.{NoRepeat}
 use Rattle.commit_graph.specs.Beyond.{links_in, link_count}
 use Rattle.commit_graph.specs.Facts.{IsFact, IsLearned, IsLookedUp, fact_in, waiting_in, waiting_after}
-use Rattle.commit_graph.proofs.Members.{contains_nothing, contains_cases}
+use Rattle.commit_graph.proofs.Members.{contains_cases}
 use Rattle.commit_graph.proofs.Repeats.{sum_by-cons}
 
 -- a pair of this name, which is not known, was met

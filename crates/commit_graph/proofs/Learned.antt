@@ -1,6 +1,6 @@
 -- What the first look-up of a name lets be known of it.
 use Rattle.std.proofs.Common.{◌≡◌, ℕ, ◌+◌, Bool, true, false, cond, List, Option, Some, None, refl, sym, ap, subst, inr, ◌⊎◌, ⊎_elim, ◌∙◌, option_map}
-use Rattle.std.specs.BTreeMap.{BTreeMap, get, is_at}
+use Rattle.std.specs.BTreeMap.{get, is_at}
 use Rattle.rad_base.specs.declared.names.Oid.{Oid}
 use Rattle.rad_base.specs.Order.{oid_cmp}
 use Rattle.git_object.specs.declared.kind.Kind.{Kind}
@@ -11,7 +11,7 @@ use Rattle.commit_graph.specs.declared.look.Looked.TheVariants as looked
 use Rattle.commit_graph.specs.declared.facts.Fact.{Fact}
 use Rattle.commit_graph.specs.declared.facts.Fact.TheVariants.{Missing, Malformed, Formed}
 use Rattle.commit_graph.specs.declared.facts.Facts.{Facts}
-use Rattle.commit_graph.specs.Objects.{Object, ObjectMap}
+use Rattle.commit_graph.specs.Objects.{ObjectMap}
 use Rattle.commit_graph.specs.Looks.{Reads}
 use Rattle.commit_graph.specs.Beyond.{links_in}
 use Rattle.commit_graph.specs.Facts.{IsFact, IsLearned, fact_in, waiting_in, waiting_after}

@@ -10,7 +10,7 @@ use Rattle.rad_base.specs.Order.{oid_cmp}
 use Rattle.rad_base.proofs.NameOrder.{apart, oid_exact}
 use Rattle.git_object.specs.Names.{name}
 use Rattle.commit_graph.specs.declared.held.Held.{Held}
-use Rattle.commit_graph.specs.Objects.{Object, ObjectMap, IsNamed}
+use Rattle.commit_graph.specs.Objects.{Object, IsNamed}
 use Rattle.commit_graph.specs.Memory.{content_of, object_of, kept_or, AddsObject}
 
 none_held : (held : Option Held) → is_some held ≡ false → held ≡ None

@@ -1,5 +1,5 @@
 -- The derived order of pairs is total, and pairs that compare as equal are one.
-use Rattle.std.proofs.Common.{◌≡◌, ℕ, List, Option, Some, None, suc, zero, refl, sym, ap, ◌∙◌}
+use Rattle.std.proofs.Common.{◌≡◌, ℕ, Option, Some, None, suc, zero, refl, sym, ap, ◌∙◌}
 use Rattle.std.specs.Cmp.{IsTotalOrder, nat_cmp_total}
 use Rattle.std.specs.declared.cmp.Ordering.{Ordering}
 use Rattle.std.specs.declared.cmp.Ordering.TheVariants.{Less, Equal, Greater}

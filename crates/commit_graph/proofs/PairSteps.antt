@@ -1,5 +1,5 @@
 -- A pair is missing, unfit or fit, and only a fit one has links.
-use Rattle.std.proofs.Common.{◌≡◌, ℕ, true, List, [], Option, Some, None, Result, Ok, Err, inl, inr, ◌⊎◌, refl, sym, ap, subst, ◌∙◌}
+use Rattle.std.proofs.Common.{◌≡◌, ℕ, true, List, [], Option, Some, Result, Ok, Err, inl, inr, ◌⊎◌, refl, sym, ap, subst, ◌∙◌}
 use Rattle.std.specs.Prelude.{Contains, map, filter, IfOk}
 use Rattle.std.specs.Option.{unwrap_or}
 use Rattle.git_object.specs.declared.kind.Kind.{Kind}

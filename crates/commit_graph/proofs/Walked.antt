@@ -1,5 +1,5 @@
 -- Walks go on by steps, and stay in what is closed under them.
-use Rattle.std.proofs.Common.{◌≡◌, List, [], ◌∷◌, ◌++◌, refl, sym, subst}
+use Rattle.std.proofs.Common.{List, [], ◌∷◌, ◌++◌, refl, sym, subst}
 use Rattle.std.specs.Prelude.{Contains}
 use Rattle.commit_graph.specs.Walks.{Walk, Reached}
 

@@ -1,5 +1,5 @@
 -- What lies beyond the names that are known to be closed.
-use Rattle.std.specs.Prelude.{◌≡◌, ℕ, Bool, false, ◌⊎◌, ◌↔◌, List, [], ◌∷◌, length, Contains, Option, Some, None, IsTrue, Result, Ok, Err}
+use Rattle.std.specs.Prelude.{◌≡◌, ℕ, false, ◌⊎◌, ◌↔◌, List, [], ◌∷◌, length, Contains, Option, Some, None, IsTrue, Result, Ok, Err}
 use Rattle.std.specs.BTreeSet.{BTreeSet, contains}
 use Rattle.rad_base.specs.declared.names.Oid.{Oid}
 use Rattle.rad_base.specs.Order.{oid_cmp}

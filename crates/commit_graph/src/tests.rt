@@ -1,7 +1,8 @@
 // Tests against graphs that an independent program made, and that agree with Git; against the plain
-// closure; and of a long chain.
+// closure; of a long chain; and beyond names that are known.
 mod graphs;
 mod graphs_of_git;
+mod known;
 mod long_chain;
 mod more_graphs;
 mod shapes;

@@ -39,7 +39,7 @@ const PEOPLE: &[u8] = b"author a <a@b> 0 +0000\ncommitter a <a@b> 0 +0000\n\n";
 
 const NO_NAME: Oid = Oid([0; 20]);
 
-fn name(names: &[Oid], number: usize) -> Oid {
+pub(crate) fn name(names: &[Oid], number: usize) -> Oid {
     names.get(number).copied().unwrap_or(NO_NAME)
 }
 
@@ -70,7 +70,7 @@ fn content(alloc: Global, text: &[u8], names: &[Oid]) -> Result<Vec<u8>, NoMemor
     Ok(bytes)
 }
 
-fn built(alloc: Global, graph: &Graph) -> Result<(MemObjects, Vec<Oid>), NoMemory> {
+pub(crate) fn built(alloc: Global, graph: &Graph) -> Result<(MemObjects, Vec<Oid>), NoMemory> {
     let mut objects = MemObjects::new(alloc);
     let mut names = Vec::new(alloc);
     for digits in graph.absent {

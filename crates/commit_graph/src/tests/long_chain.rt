@@ -8,7 +8,7 @@ use std::test::Fail;
 
 const EMPTY_TREE: &[u8] = b"tree 4b825dc642cb6eb9a060e54bf8d69288fbee4904\n";
 
-fn commit(alloc: Global, parent: Option<Oid>) -> Result<Vec<u8>, NoMemory> {
+pub(crate) fn commit(alloc: Global, parent: Option<Oid>) -> Result<Vec<u8>, NoMemory> {
     let mut bytes = Vec::from_slice(alloc, EMPTY_TREE)?;
     if let Some(parent) = parent {
         bytes.extend_from_slice(b"parent ")?;

@@ -1,4 +1,4 @@
-use Rattle.std.proofs.Common.{◌≡◌, List, ◌↔◌, sym, subst}
+use Rattle.std.proofs.Common.{List, ◌↔◌, sym, subst}
 use Rattle.std.specs.Prelude.{Contains}
 use Rattle.std.specs.BTreeSet.{BTreeSet}
 use Rattle.rad_base.specs.declared.names.Oid.{Oid}

@@ -1,10 +1,9 @@
-use Rattle.std.proofs.Common.{◌≡◌, ◌++◌, [], ◌∷◌, List, sym, ap, subst, ◌∙◌, reverse, slice_index_or, arith}
+use Rattle.std.proofs.Common.{◌≡◌, ◌++◌, [], ◌∷◌, List, sym, ap, subst, ◌∙◌, reverse, arith}
 use Rattle.std.specs.Prelude.{Contains, map}
 use Rattle.std.proofs.lemmas.Bool.{false≢true}
-use Rattle.rad_base.specs.declared.names.Oid.{Oid}
 use Rattle.commit_graph.specs.declared.root.Root.{Root}
 use Rattle.commit_graph.specs.Pairs.{as_commit, oid_of}
-use Rattle.commit_graph.specs.Chains.{HasParents, IsChain}
+use Rattle.commit_graph.specs.Chains.{HasParents}
 use Rattle.commit_graph.proofs.ChainLines.{line_turn, line_returns, line_chain, line_parents, one_item, no_item, added_new}
 use Rattle.commit_graph.proofs.chains.chain.Goals as goal
 

@@ -1,6 +1,5 @@
 use Rattle.std.proofs.Common.{◌≡◌, sym, ap, ◌∙◌}
 use Rattle.git_object.specs.Names.{name}
-use Rattle.commit_graph.specs.Objects.{Object}
 use Rattle.commit_graph.proofs.Named.{adds_object, named_more}
 use Rattle.commit_graph.proofs.held.hold.Goals as goal
 

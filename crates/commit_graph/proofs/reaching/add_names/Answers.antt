@@ -6,7 +6,7 @@ use Rattle.rad_base.specs.declared.names.Oid.{Oid}
 use Rattle.rad_base.specs.Order.{oid_cmp}
 use Rattle.commit_graph.specs.declared.root.Root.{Root}
 use Rattle.commit_graph.specs.Closures.{HasName}
-use Rattle.commit_graph.proofs.NameSets.{IsTold, told_none, told_more, has_taken}
+use Rattle.commit_graph.proofs.NameSets.{told_none, told_more, has_taken}
 use Rattle.commit_graph.proofs.reaching.add_names.Goals as goal
 
 pub loop-pair-init : goal.loop-pair-init

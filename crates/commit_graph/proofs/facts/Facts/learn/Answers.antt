@@ -1,8 +1,7 @@
-use Rattle.std.proofs.Common.{◌≡◌, None, Some, refl, rules, sym, ap, subst, ◌∙◌, option_map}
+use Rattle.std.proofs.Common.{◌≡◌, None, refl, rules, sym, ap, subst, ◌∙◌, option_map}
 use Rattle.std.specs.BTreeMap.{is_at}
 use Rattle.rad_base.specs.Order.{oid_cmp}
 use Rattle.commit_graph.specs.declared.facts.Facts.{Facts}
-use Rattle.commit_graph.specs.declared.look.Looked.{Looked}
 use Rattle.commit_graph.specs.Objects.{shown}
 use Rattle.commit_graph.specs.Looks.{Reads}
 use Rattle.commit_graph.specs.Facts.{fact_in, waiting_in}
@@ -25,4 +24,4 @@ returns-clause-told g c = λ m e.
       | in-Some-2+in_ok-links-in-Some-2+in-Missing w ↦ settles_malformed (sym found ∙ ap shown w.in-Some-2.is)
           w.in_ok-links-in-Some-2.ensures.read w.in-Missing.is w.fact-is w.self-is
     ])
-    c.in_ok-insert.ensures.updates.0 refl c.tick.ensures
+    c.in_ok-insert.ensures.updates.0 refl (search rules)

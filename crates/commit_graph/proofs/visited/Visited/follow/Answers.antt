@@ -1,4 +1,4 @@
-use Rattle.std.proofs.Common.{List, get_or, sym, ap, subst, ◌∙◌}
+use Rattle.std.proofs.Common.{subst}
 use Rattle.commit_graph.specs.declared.root.Root.{Root}
 use Rattle.commit_graph.specs.Lists.{Adds}
 use Rattle.commit_graph.specs.Pairs.{pair_of}
