@@ -1,4 +1,12 @@
 // What holds of signed refs by their definitions alone.
+ghost use Rattle.rad_base.specs.declared.names.Nid.{Nid};
+ghost use Rattle.rad_base.specs.declared.names.Oid.{Oid};
+ghost use Rattle.rad_base.specs.declared.names.Rid.{Rid};
+ghost use Rattle.commit_graph.specs.Objects.{ObjectMap};
+ghost use Rattle.keyring.specs.Contents.{Contents};
+ghost use Rattle.signed_refs.specs.Refusals.{IsFault, Refuses};
+ghost use Rattle.signed_refs.specs.Signed.{Signed};
+ghost use Rattle.signed_refs.specs.declared.fault.SigFault.{SigFault};
 ghost use Rattle.std.specs.Prelude.{◌≡◌, ℕ, List, Result, Ok, Err};
 ghost use Rattle.signed_refs.specs.Lines.{Line, SpellsRefs};
 ghost use Rattle.signed_refs.specs.Readings.{Reads};
@@ -15,5 +23,16 @@ pub fn refs_are_read_back()
     ensures back { (lines : List Line) (bytes : List ℕ) (answer : Result (List Line) RefsFault)
         → SpellsRefs lines bytes → Reads bytes answer → (answer ≡ Err RefsFault.NoMemory → ⊥)
         → answer ≡ Ok lines }
-    ensures one { (lines : List Line) (a b : List ℕ) → SpellsRefs lines a → SpellsRefs lines b → a ≡ b }
+    ensures one { (lines : List Line) (a b : List ℕ)
+        → SpellsRefs lines a → SpellsRefs lines b → a ≡ b }
+{}
+
+/// A commit says one list of refs, and it is then refused by a fault alone.
+pub fn one_saying()
+    ensures one { (objects : ObjectMap) (keyring : Contents) (rid : Rid) (node : Nid)
+        (commit : Oid) (a b : List Line) → Signed objects keyring rid node commit a
+        → Signed objects keyring rid node commit b → a ≡ b }
+    ensures alone { (objects : ObjectMap) (keyring : Contents) (rid : Rid) (node : Nid)
+        (commit : Oid) (refs : List Line) (fault : SigFault) → Signed objects keyring rid node commit refs
+        → Refuses objects keyring rid node commit fault → IsFault fault }
 {}

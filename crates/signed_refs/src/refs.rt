@@ -1,5 +1,6 @@
 // Refs: names with an object each, the names strictly rising.
-ghost use Rattle.std.specs.Prelude.{◌≡◌, ◌∷◌, ◌++◌, ◌↔◌, [], length, Contains, Some, IsTrue, OnOk, OnErr};
+ghost use Rattle.std.specs.Prelude.{◌≡◌, ◌∷◌, ◌++◌, ◌↔◌, [], length, Contains, Some};
+ghost use Rattle.std.specs.Prelude.{IsTrue, OnErr, OnOk};
 ghost use Rattle.rad_base.specs.declared.names.Oid.{Oid};
 ghost use Rattle.signed_refs.specs.Lines.{AreRising, IsAbove};
 

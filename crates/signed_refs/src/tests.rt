@@ -1,4 +1,7 @@
 // Signed refs, read and written, and names in a namespace.
+mod commits;
+mod objects;
+
 use super::*;
 use crate::RefsFault::BadLine;
 use rad_base::{Nid, Oid};
@@ -194,7 +197,7 @@ const BLOBS: [(&[u8], Result<usize, RefsFault>); 76] = [
     (b"%45T re[s/heads/12\n", Err(BadLine(1))),
 ];
 
-fn push_times(blob: &mut Vec<u8>, piece: &[u8], times: u8) -> Result<(), AllocError> {
+pub(crate) fn push_times(blob: &mut Vec<u8>, piece: &[u8], times: u8) -> Result<(), AllocError> {
     for _ in 0..times {
         blob.extend_from_slice(piece)?;
     }
@@ -210,7 +213,7 @@ fn push_run(blob: &mut Vec<u8>, template: &[u8]) -> Result<(), AllocError> {
 }
 
 // The blob that a template stands for.
-fn blob_of(alloc: Global, template: &[u8]) -> Result<Vec<u8>, AllocError> {
+pub(crate) fn blob_of(alloc: Global, template: &[u8]) -> Result<Vec<u8>, AllocError> {
     let mut blob = Vec::new(alloc);
     let mut passed = 0u8;
     for (at, byte) in template.iter().enumerate() {

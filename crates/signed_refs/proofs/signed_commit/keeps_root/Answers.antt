@@ -1,0 +1,10 @@
+use Rattle.std.proofs.Common.{refl}
+use Rattle.signed_refs.proofs.Told.{no_some, root_kept}
+use Rattle.signed_refs.proofs.signed_commit.keeps_root.Goals as goal
+
+pub returns-in_default-clause-told : goal.returns-in_default-clause-told
+returns-in_default-clause-told g c = λ m e. ((λ t oid has. absurd (no_some c.get.result oid c.in_default.is ((c.get.ensures oid).1 has))), λ h. refl)
+
+pub returns-clause-told : goal.returns-clause-told
+returns-clause-told g c = λ m e.
+    root_kept m c.args.rid.now c.args.refs.now c.get.result c.in-Some.oid c.in_ok-keeps.keeps c.get.ensures c.in-Some.is (c.in_ok-keeps.ensures.told m e)

@@ -1,0 +1,154 @@
+// Commits of signed refs, those of an independent program and others.
+use super::objects::{CASES, KEYRING, OBJECTS, Said};
+use super::{blob_of, push_times};
+use crate::{SigFault, signed};
+use commit_graph::{MemObjects, Objects};
+use git_object::{Kind, write_commit};
+use keyring::Keyring;
+use rad_base::{Nid, NoMemory, Oid, Rid, parse_oid, until};
+use std::alloc::{AllocError, Global};
+use std::test::Fail;
+
+const NO_NAME: Oid = Oid([0; 20]);
+
+fn name(digits: &[u8]) -> Oid {
+    parse_oid(digits).unwrap_or(NO_NAME)
+}
+
+fn fault(said: Said) -> Result<usize, SigFault> {
+    match said {
+        Said::Refs(count) => Ok(count),
+        Said::Missing(digits) => Err(SigFault::Missing(name(digits))),
+        Said::BadObject(digits) => Err(SigFault::BadObject(name(digits))),
+        Said::BadSigrefs => Err(SigFault::BadSigrefs),
+        Said::Grafted => Err(SigFault::Grafted),
+    }
+}
+
+fn count<O: Objects>(
+    alloc: Global,
+    objects: &mut O,
+    keyring: &Keyring,
+    rid: &Rid,
+    node: &Nid,
+    commit: &Oid,
+) -> Result<usize, SigFault> {
+    let refs = signed(alloc, objects, keyring, rid, node, commit)?;
+    Ok(refs.len())
+}
+
+// Adds an entry of a tree: a mode and a name, `@` and the digits of an object's name.
+fn push_entry(alloc: Global, bytes: &mut Vec<u8>, entry: &[u8]) -> Result<(), Fail> {
+    let Some((front, digits)) = until(entry, b'@') else {
+        return Ok(());
+    };
+    let name = hex::decode(alloc, digits)?;
+    bytes.extend_from_slice(front)?;
+    bytes.push(0)?;
+    bytes.extend_from_slice(&name)?;
+    Ok(())
+}
+
+// The content of an object from its pieces.
+fn content(alloc: Global, kind: Kind, pieces: &[&[u8]]) -> Result<Vec<u8>, Fail> {
+    let mut bytes = Vec::new(alloc);
+    for piece in pieces {
+        match kind {
+            Kind::Tree => push_entry(alloc, &mut bytes, piece)?,
+            _ => bytes.extend_from_slice(piece)?,
+        }
+    }
+    Ok(bytes)
+}
+
+fn put_all(alloc: Global, objects: &mut MemObjects) -> Result<(), Fail> {
+    for (kind, pieces) in OBJECTS {
+        let bytes = content(alloc, kind, pieces)?;
+        objects.put(alloc, kind, &bytes)?;
+    }
+    Ok(())
+}
+
+// The keyring that accepts these signatures.
+fn keyring_of(alloc: Global, lines: &[(&[u8], &[u8])]) -> Result<Vec<u8>, AllocError> {
+    let mut text = Vec::new(alloc);
+    for (byte, digest) in lines {
+        text.extend_from_slice(b"accept ")?;
+        push_times(&mut text, byte, 32)?;
+        text.push(b' ')?;
+        text.extend_from_slice(digest)?;
+        text.push(b' ')?;
+        push_times(&mut text, byte, 64)?;
+        text.push(b'\n')?;
+    }
+    Ok(text)
+}
+
+#[test]
+fn commits_say_their_refs(rt: HostRuntime) -> Result<(), Fail> {
+    let alloc = rt.alloc();
+    let mut objects = MemObjects::new(alloc);
+    put_all(alloc, &mut objects)?;
+    let keyring = Keyring::read(alloc, &keyring_of(alloc, &KEYRING)?)?;
+    for (rid, byte, commit, said) in CASES {
+        let rid = Rid(name(rid));
+        let node = Nid([byte; 32]);
+        let answer = count(alloc, &mut objects, &keyring, &rid, &node, &name(commit));
+        assert_eq!(rt; answer, fault(said));
+    }
+    Ok(())
+}
+
+// The commit whose tree has these two blobs.
+fn put_commit(
+    alloc: Global,
+    objects: &mut MemObjects,
+    refs: &[u8],
+    signature: &[u8],
+) -> Result<Oid, NoMemory> {
+    let refs = objects.put(alloc, Kind::Blob, refs)?;
+    let signature = objects.put(alloc, Kind::Blob, signature)?;
+    let mut tree = Vec::new(alloc);
+    tree.extend_from_slice(b"100644 refs\0")?;
+    tree.extend_from_slice(&refs.0)?;
+    tree.extend_from_slice(b"100644 signature\0")?;
+    tree.extend_from_slice(&signature.0)?;
+    let tree = objects.put(alloc, Kind::Tree, &tree)?;
+    let commit = write_commit(alloc, &tree, &[], b"author a <a@b> 0 +0000\n")?;
+    objects.put(alloc, Kind::Commit, &commit)
+}
+
+// The blob of the refs, the length of the signature, and what is said where the keyring accepts the
+// signature over no bytes alone (their SHA-256 is that of FIPS 180-4).
+const EMPTY: [(&[u8], &[u8]); 1] = [(
+    b"21",
+    b"e3b0c44298fc1c149afbf4c8996fb92427ae41e4649b934ca495991b7852b855",
+)];
+
+const REFUSED: [(&[u8], usize, Result<usize, SigFault>); 8] = [
+    (b"", 64, Ok(0)),
+    (b"", 63, Err(SigFault::BadSigrefs)),
+    (b"%11T refs/b\n%11T refs/a\n", 64, Err(SigFault::BadSigrefs)),
+    (b"%11T refs/a\n%22T refs/a\n", 64, Err(SigFault::BadSigrefs)),
+    (b"%11T refs/rad/sigrefs\n", 64, Err(SigFault::BadSigrefs)),
+    (b"%ABT refs/a\n", 64, Err(SigFault::BadSigrefs)),
+    (b"%11T refs/a\n", 64, Err(SigFault::NotAccepted)),
+    (b"%11T refs/rad/root\n", 64, Err(SigFault::NotAccepted)),
+];
+
+#[test]
+fn the_first_that_fails_is_told(rt: HostRuntime) -> Result<(), Fail> {
+    let alloc = rt.alloc();
+    let keyring = Keyring::read(alloc, &keyring_of(alloc, &EMPTY)?)?;
+    let signature = [0x21u8; 64];
+    let mut objects = MemObjects::new(alloc);
+    for (template, length, want) in REFUSED {
+        let refs = blob_of(alloc, template)?;
+        let signature = signature.get(..length).ok_or(NoMemory)?;
+        let commit = put_commit(alloc, &mut objects, &refs, signature)?;
+        let node = Nid([0x21; 32]);
+        let answer = count(alloc, &mut objects, &keyring, &Rid(NO_NAME), &node, &commit);
+        assert_eq!(rt; answer, want);
+    }
+    Ok(())
+}
