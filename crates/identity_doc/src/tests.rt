@@ -1,4 +1,8 @@
 // Documents with what an independent reader says of them, and who sees a repository.
+mod chains;
+mod long_chain;
+mod told;
+
 use crate::{Doc, DocFault, Field, Visibility};
 use keyring::Keyring;
 use rad_base::{Nid, Nids, Text};
