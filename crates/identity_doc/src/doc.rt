@@ -30,8 +30,9 @@ pub struct Doc {
 }
 
 impl Doc {
-    /// The document that a JSON value is, as the Radicle Heartwood protocol has them. A text stands
-    /// for a key as `Keyring::name` says. The checks, of which the first that fails is the refusal:
+    /// The document that a JSON value is, after the identity documents of the Radicle Heartwood
+    /// protocol. A text stands for a key as `Keyring::name` says. The checks, of which the first
+    /// that fails is the refusal:
     ///
     /// 1. `delegates` is there and an array, else `NoField(Delegates)`; a value that is no object
     ///    lacks every member.
