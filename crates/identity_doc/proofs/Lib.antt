@@ -4,8 +4,10 @@ pub mod DelegateKeys
 pub mod Elements
 pub mod IdentityLines
 pub mod IdentitySteps
+pub mod NotRefused
 pub mod OneDocument
 pub mod OneIdentity
+pub mod OneSignatures
 pub mod SignatureFronts
 pub mod SignatureOrder
 pub mod SignatureReading

@@ -19,25 +19,25 @@ use Rattle.identity_doc.specs.IdentityChains.{HasDocument, HasIdentity, IsChange
 use Rattle.identity_doc.proofs.OneDocument.{one_document}
 
 -- a commit has one list of parents
-one_parents : (m : ObjectMap) (oid : Oid) (a b : List Oid) → HasParents m oid a → HasParents m oid b → a ≡ b
+pub one_parents : (m : ObjectMap) (oid : Oid) (a b : List Oid) → HasParents m oid a → HasParents m oid b → a ≡ b
 one_parents m oid a b h k =
     h.are ∙ ap (λ (bytes : List ℕ). parents_in (links Commit bytes)) (one_content (m oid) Commit h.bytes k.bytes h.there k.there) ∙ sym k.are
 
 -- a walk over children, read from its end
-walk_back : (m : ObjectMap) (root : Oid) (later : List Oid) (tip : Oid) → Walk (IsOnlyParent m) root later tip → IsLine m tip (reverse later) root
+pub walk_back : (m : ObjectMap) (root : Oid) (later : List Oid) (tip : Oid) → Walk (IsOnlyParent m) root later tip → IsLine m tip (reverse later) root
 walk_back m root [] tip w = sym w
 walk_back m root (x ∷ later) tip w =
     subst (λ (l : List Oid). IsLine m tip l root) (sym (reverse-append (x ∷ []) later))
     (line_more m tip (reverse later) x root (walk_back m x later tip w.1) w.0)
 
-no_parent : (m : ObjectMap) (a b parent : Oid) → a ≡ b → HasParents m a [] → HasParents m b (parent ∷ []) → ⊥
+pub no_parent : (m : ObjectMap) (a b parent : Oid) → a ≡ b → HasParents m a [] → HasParents m b (parent ∷ []) → ⊥
 no_parent m a b parent same h k = cc (one_parents m b [] (parent ∷ []) (subst (λ (o : Oid). HasParents m o []) same h) k)
 
-same_head : (a b : Oid) (xs ys : List Oid) → a ∷ xs ≡ b ∷ ys → a ≡ b
+pub same_head : (a b : Oid) (xs ys : List Oid) → a ∷ xs ≡ b ∷ ys → a ≡ b
 same_head a b xs ys e = cc e
 
 -- the lines from one tip to commits without parents are one
-one_line : (m : ObjectMap) (tip : Oid) (xs ys : List Oid) (a b : Oid) → IsLine m tip xs a → IsLine m tip ys b
+pub one_line : (m : ObjectMap) (tip : Oid) (xs ys : List Oid) (a b : Oid) → IsLine m tip xs a → IsLine m tip ys b
     → HasParents m a [] → HasParents m b [] → (xs ≡ ys) × (a ≡ b)
 one_line m tip [] [] a b v w h k = (refl, sym v ∙ w)
 one_line m tip [] (y ∷ ys) a b v w h k = absurd (no_parent m a y w.1.0 (sym v ∙ w.0) h w.1.1)

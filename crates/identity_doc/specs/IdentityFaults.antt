@@ -4,6 +4,7 @@ use Rattle.rad_base.specs.declared.names.Oid.{Oid}
 use Rattle.rad_base.specs.declared.names.Rid.{Rid}
 use Rattle.keyring.specs.Contents.{Contents}
 use Rattle.commit_graph.specs.declared.answer.Closure.TheVariants as closure
+use Rattle.commit_graph.specs.declared.fault.GetFault.{GetFault}
 use Rattle.commit_graph.specs.declared.chains.ChainFault.{ChainFault}
 use Rattle.commit_graph.specs.declared.chains.ChainFault.TheVariants as chain
 use Rattle.commit_graph.specs.Objects.{ObjectMap}
@@ -112,6 +113,10 @@ IsIdFault objects keyring rid tip (TwoParents oid) = IsClosed objects (as_commit
 IsIdFault objects keyring rid tip (NoRoot oid) = IsClosed objects (as_commit tip ∷ []) × IsReturn objects tip oid
 IsIdFault objects keyring rid tip (Get why) = Unit {0}
 IsIdFault objects keyring rid tip other = IsFaultInChain objects keyring rid tip other
+
+-- an object could not be had, or memory was refused
+abbrev pub IsGet : IdFault → Type 0
+IsGet fault = (why : GetFault) × (fault ≡ Get why)
 
 -- the cause of a fault that a look-up met
 abbrev pub IsGetCause : Option ObjectMap → ℕ → ℕ → IdFault → Type 0

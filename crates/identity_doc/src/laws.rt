@@ -11,7 +11,9 @@ ghost use Rattle.identity_doc.specs.declared.fault.DocFault.{DocFault};
 ghost use Rattle.rad_base.specs.declared.names.Oid.{Oid};
 ghost use Rattle.rad_base.specs.declared.names.Rid.{Rid};
 ghost use Rattle.commit_graph.specs.Objects.{ObjectMap};
+ghost use Rattle.identity_doc.specs.declared.id_fault.IdFault.{IdFault};
 ghost use Rattle.identity_doc.specs.IdentityChains.{HasIdentity, IsIdentityChain};
+ghost use Rattle.identity_doc.specs.IdentityFaults.{IsGet, IsIdFault};
 
 /// A value is at most one document, or is refused for at most one reason.
 pub fn one_document()
@@ -51,4 +53,11 @@ pub fn one_identity()
     ensures document { (objects : ObjectMap) (keyring : Contents) (rid : Rid) (tip : Oid) (a b : Doc)
         → HasIdentity objects keyring rid tip a → HasIdentity objects keyring rid tip b
         → a ≡ b }
+{}
+
+/// A tip that has an identity is refused only where an object could not be had.
+pub fn an_identity_is_not_refused()
+    ensures { (objects : ObjectMap) (keyring : Contents) (rid : Rid) (tip : Oid) (doc : Doc) (fault : IdFault)
+        → HasIdentity objects keyring rid tip doc → IsIdFault objects keyring rid tip fault
+        → IsGet fault }
 {}

@@ -22,5 +22,7 @@ pub use doc::Doc;
 pub use fault::{DocFault, Field};
 pub use id_fault::IdFault;
 pub use identity::id_chain;
-pub use laws::{delegate_keys, one_document, one_identity, reachable_threshold};
+pub use laws::{
+    an_identity_is_not_refused, delegate_keys, one_document, one_identity, reachable_threshold,
+};
 pub use visibility::Visibility;
