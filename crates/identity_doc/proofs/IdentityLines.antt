@@ -14,7 +14,8 @@ use Rattle.identity_doc.specs.declared.doc.Doc.{Doc}
 use Rattle.identity_doc.specs.declared.id_fault.IdFault.{IdFault}
 use Rattle.identity_doc.specs.declared.id_fault.IdFault.TheVariants.{Missing, BadObject, TwoParents, NoRoot, NoDocument, WrongRoot, NotJson, BadDocument, BadSignatures, TooFew, Get}
 use Rattle.identity_doc.specs.IdentityChains.{EndsLine, HasDocument, HasDocumentIn, IsApproved, IsChange}
-use Rattle.identity_doc.specs.IdentityFaults.{FailsChange, FailsLine, IsIdFault, IsWalkFault}
+use Rattle.identity_doc.specs.IdentityFaults.{FailsChange, FailsLine, IsIdFault}
+use Rattle.identity_doc.specs.IdentityReaders.{IsWalkFault}
 
 -- where a walk goes on behind what another came to by the same items
 walk_next : {X : Type 0} (S T : X → X → Type 0) (p : X) (path : List X) (q : X) (i : ℕ) (r x d : X) → Walk S p path q

@@ -10,7 +10,8 @@ use Rattle.identity_doc.specs.declared.doc.Doc.{Doc}
 use Rattle.identity_doc.specs.declared.id_fault.IdFault.{IdFault}
 use Rattle.identity_doc.specs.declared.id_fault.IdFault.TheVariants.{Missing, BadObject, TwoParents, NoRoot, NoDocument, WrongRoot, NotJson, BadDocument, BadSignatures, TooFew, Get}
 use Rattle.identity_doc.specs.IdentityChains.{HasBlob}
-use Rattle.identity_doc.specs.IdentityFaults.{FailsApproval, FailsBlob, FailsChange, FailsFirst, FailsLines, FailsSignatures, HasSomeDocument, LacksDocument}
+use Rattle.identity_doc.specs.IdentityFaults.{FailsChange, FailsFirst, HasSomeDocument, LacksDocument}
+use Rattle.identity_doc.specs.IdentityReaders.{FailsApproval, FailsBlob, FailsLines, FailsSignatures}
 
 module _ (m : ObjectMap) (commit blob : Oid) (named : embedded.HasDocument m commit blob) where
   -- a commit whose document blob is not there has none

@@ -2,6 +2,7 @@ pub mod DelegateKeys
 pub mod Documents
 pub mod IdentityChains
 pub mod IdentityFaults
+pub mod IdentityReaders
 pub mod Majorities
 pub mod SignatureReaders
 pub mod Signatures

@@ -2,7 +2,8 @@
 ghost use Rattle.std.specs.Prelude.{◌≡◌, ℕ, List, IfOk, IfErr};
 ghost use Rattle.std.specs.Option.{ForSome};
 ghost use Rattle.identity_doc.specs.IdentityChains.{HasBlob, HasSignatures};
-ghost use Rattle.identity_doc.specs.IdentityFaults.{FailsBlob, FailsLines, FailsSignatures, HasGetCause};
+ghost use Rattle.identity_doc.specs.IdentityFaults.{HasGetCause};
+ghost use Rattle.identity_doc.specs.IdentityReaders.{FailsBlob, FailsLines, FailsSignatures};
 ghost use Rattle.identity_doc.specs.Signatures.{AreLines, AreSignatures};
 ghost use Rattle.identity_doc.specs.Texts.{IsText};
 

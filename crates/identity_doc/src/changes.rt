@@ -3,7 +3,8 @@ ghost use Rattle.std.specs.Prelude.{◌≡◌, IfOk, IfErr, OnOk};
 ghost use Rattle.std.specs.Option.{ForSome};
 ghost use Rattle.tree_entry.specs.Embedded as embedded;
 ghost use Rattle.identity_doc.specs.IdentityChains.{HasDocument, HasDocumentIn, IsApproved};
-ghost use Rattle.identity_doc.specs.IdentityFaults.{FailsApproval, FailsChange, FailsFirst, HasGetCause};
+ghost use Rattle.identity_doc.specs.IdentityFaults.{FailsChange, FailsFirst, HasGetCause};
+ghost use Rattle.identity_doc.specs.IdentityReaders.{FailsApproval};
 
 use crate::blobs::{document_in, signatures_at};
 use crate::doc::Doc;

@@ -66,7 +66,7 @@ impl From<NoMemory> for IdFault {
 
 impl From<ChainFault> for IdFault {
     ghost use Rattle.std.specs.Prelude.{◌≡◌};
-    ghost use Rattle.identity_doc.specs.IdentityFaults.{of_chain};
+    ghost use Rattle.identity_doc.specs.IdentityReaders.{of_chain};
     ghost use Rattle.identity_doc.specs.declared.id_fault.IdFault.{IdFault};
 
     ghost from_gives = { λ fault why. why ≡ of_chain fault };

@@ -6,7 +6,8 @@ ghost use Rattle.commit_graph.specs.Pairs.{as_commit};
 ghost use Rattle.commit_graph.specs.Closures.{IsClosed};
 ghost use Rattle.commit_graph.specs.Chains.{IsChain};
 ghost use Rattle.identity_doc.specs.IdentityChains.{EndsLine, HasIdentity};
-ghost use Rattle.identity_doc.specs.IdentityFaults.{FailsLine, HasGetCause, IsIdFault, IsWalkFault};
+ghost use Rattle.identity_doc.specs.IdentityFaults.{FailsLine, HasGetCause, IsIdFault};
+ghost use Rattle.identity_doc.specs.IdentityReaders.{IsWalkFault};
 
 use crate::changes::{changed_document, first_document};
 use crate::doc::Doc;
@@ -69,8 +70,18 @@ fn last_document<O: Objects>(
     Ok(doc)
 }
 
-/// The identity document at the tip of a chain of identity commits, as the Radicle Heartwood
-/// protocol has them.
+/// The document of a tip: that of the last commit of its identity chain, as the Radicle Heartwood
+/// protocol has identity commits. The tree of each commit has a directory `embeds`, in which
+/// `radicle.json` is the document, as JSON. The first commit has no parent, and its document blob has
+/// the repository's name. Each later one has the one before as its only parent, and a blob
+/// `signatures` in `embeds`, in which more than half of the delegates before it signed the change.
+///
+/// The refusal is the first that fails: `Missing` or `BadObject`, where the tip is not closed as a
+/// commit; `TwoParents` or `NoRoot`, where no line of commits leads to it; and then, at the first
+/// commit from the root that breaks a rule, `NoDocument`, `WrongRoot`, `NotJson`, `BadDocument`,
+/// `BadSignatures` or `TooFew`. `Get` comes where an object could not be had, or memory was refused.
+///
+/// It takes one closure and one walk, in O(n log n) for n objects, and reads each document once.
 pub fn id_chain<O: Objects>(
     alloc: Global,
     objects: &mut O,
