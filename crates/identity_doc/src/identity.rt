@@ -70,8 +70,8 @@ fn last_document<O: Objects>(
     Ok(doc)
 }
 
-/// The document of a tip: that of the last commit of its identity chain, as the Radicle Heartwood
-/// protocol has identity commits. The tree of each commit has a directory `embeds`, in which
+/// The document of a tip: that of the last commit of its identity chain. Identity commits are after
+/// the Radicle Heartwood protocol, in this project's own form. The tree of each commit has a directory `embeds`, in which
 /// `radicle.json` is the document, as JSON. The first commit has no parent, and its document blob has
 /// the repository's name. Each later one has the one before as its only parent, and a blob
 /// `signatures` in `embeds`, in which more than half of the delegates before it signed the change.

@@ -1,8 +1,10 @@
 // Documents with what an independent reader says of them, and who sees a repository.
 mod chains;
+mod circle;
 mod long_chain;
 mod told;
 
+use crate::reading::{ReadFault, document_of};
 use crate::{Doc, DocFault, Field, Visibility};
 use keyring::Keyring;
 use rad_base::{Nid, Nids, Text};
@@ -20,7 +22,7 @@ name did:key:fed01ababababababababababababababababababababababababababababababab
 type Summary<'a> = (usize, u8, Option<&'a str>, Option<usize>);
 
 // Documents. A template has one byte for a piece that often stands: see `push_piece`.
-const READ: [(&[u8], Summary<'static>); 41] = [
+const READ: [(&[u8], Summary<'static>); 45] = [
     (b"`^}", (1, 1, Some("master"), None)),
     (b" \t\r\n`^}\n ", (1, 1, Some("master"), None)),
     (
@@ -122,10 +124,25 @@ const READ: [(&[u8], Summary<'static>); 41] = [
         br#"{"delegates":["named","other","did:key:fed01%"],"threshold":3,^}"#,
         (3, 3, Some("master"), None),
     ),
+    (b"`#\"@\"}}}", (1, 1, Some("@"), None)),
+    (
+        b"`\"payload\":{\"xyz.radicle.project\":{\"defaultBra}nch\":\"master\"}},\"x\":\"\
+        \x7f\"}",
+        (1, 1, None, None),
+    ),
+    (
+        b";%\"],=1,\"payload\":{\"xyz.radicle2.project\":{\"defaultBranch\":\"master\"}}}",
+        (1, 1, None, None),
+    ),
+    (
+        b"`^?\"private\",\"allow\":[\"did:key:fed0121212121212121212121212121212121212120212\
+        12121212121212121212121\",\"did:key:fed01~\"]}}",
+        (1, 1, Some("master"), Some(2)),
+    ),
 ];
 
 // Values that are no documents.
-const REFUSED: [(&[u8], DocFault); 59] = [
+const REFUSED: [(&[u8], DocFault); 64] = [
     (b"[`^}]", DocFault::NoField(Field::Delegates)),
     (br#""x""#, DocFault::NoField(Field::Delegates)),
     (b"null", DocFault::NoField(Field::Delegates)),
@@ -263,10 +280,34 @@ const REFUSED: [(&[u8], DocFault); 59] = [
         br#"`^,"visibility":{"type":"private","allow":{}}}"#,
         DocFault::BadVisibility,
     ),
+    (
+        b";21212121212true212121212121212121212121212121212121212121212121\"],=1,^,\"x\":777\
+        777777777777777777777777777e5}",
+        DocFault::BadDelegate(0),
+    ),
+    (
+        b";212121212121212121212121212121221212121212121212121212121212121\"],=1,\"payload\"\
+        :[]}",
+        DocFault::BadDelegate(0),
+    ),
+    (
+        b";21212121212121212121212121212121212121212121212121212121212!2121\"],=1,^?\"privat\
+        e\",\"allow\":[\"did:key:fed01~\",\"did:key:fed01~\"]}}",
+        DocFault::BadDelegate(0),
+    ),
+    (
+        b"{\"delegates\":[\"did:key:fe:01%\"],=1,^}",
+        DocFault::BadDelegate(0),
+    ),
+    (
+        b";212121212121212121212121212121212121212121212121212121212121\"],=1,#\"x\",\"defau\
+        ltBranch\":\"master\"}}}",
+        DocFault::BadDelegate(0),
+    ),
 ];
 
 // Texts that are no JSON.
-const NOT_JSON: [&[u8]; 65] = [
+const NOT_JSON: [&[u8]; 80] = [
     b"\xef\xbb\xbf`^}",
     b"`^}\x0b",
     b"`^}\0",
@@ -332,6 +373,42 @@ const NOT_JSON: [&[u8]; 65] = [
     b"{\"delega\xe8es\":[\"did:key:fed01~\"],=0,^,=1}",
     br#"`#"m\u0061ster"}999999999999999999999999999999"#,
     b";2121212121212121212121212121212121212121212121212121212111212121\"],=1,^}\x0b",
+    b"{'delegates':['did:key:fed01~'],'threshold':1,'payload':{'xyz.radicle.project':{'defau\
+    ltBranch':'master'}}}",
+    b";212121212121212121212121212121212121212121:121212121212121212121\"],=1,^,\"x\":1E+309\
+    }",
+    b"{\"delegate\":[\"did:key:fed01~\"],=1,\"payloa[:{\"xyz.radicle.project\":{\"defaultBra\
+    nch\":\"master\"}}}",
+    b";212121212121212121212121212121\\121212121212121212121212121212121\"],=1,^,\"x\":\"\
+    \xc0\x80\"}",
+    b";212121212121212212121212121212121212121212121212121212121212121\"],=1,^,\"x\":\"\xc0\
+    \x80\"}",
+    b"`\"payload\":{\"xyz.r-e.project\":{\"defaultBranch\":\"master\"}},\"x\":77777777777777\
+    7777777777777777e300}",
+    b";21212121212\\ud83d12121212121212121212121212121212121212121212121212121\"],=1,\"paylo\
+    ad\":{\"xyz.radicle.project\":null}}",
+    b";212121212121212121212121212121\"x\"2121212121212121212121212121212121\"],=1,^,\"x\":1\
+    e}",
+    b"`^,\"x\":1.333333333333333333333333333333333333333333333333333333333333333333333333333\
+    33333333333333333333333333333333333333333333333333333333333333333333333333333333333333\
+    33333333333333333333333333333333333333333333333333333333333333333333333333333333333333\
+    3333333333333333333333333333333333333333333333333333333333333null333333333333333333333\
+    3333333333333333333333333333333333333333333333333333333333333333333333}",
+    b"`\"payload\":{\"xyz.radicle.project\":{\"defaultBranch\".5\"master\"}},\"x\":184467440\
+    73709551615}",
+    b";212121212121212121212121212121212121212121212121212121\"x\"121212121\"],=1,^,\"x\":\"\
+    \\a\"}",
+    b"/*x*/`\"pa999999999999999999999999999999yload\":{\"xyz.radicle.project\":{\"defaultBra\
+    nch\":\"master\"}}}",
+    b"`0payload\":{\"xyz.radicle.project\":{\"defaultBranch\":\"master\"}},\"x\":18446744073\
+    709551615}",
+    b";21212121212121212121212121212121212\"x\"12121212121212121212121212121\"],=1,#\"m\\u00\
+    61ster\"}}}",
+    b";~\"],=1111111111111111111111111111111111111111111111111111111111111111111111111111111\
+    111111111111111\n111111111111111111111111111111111111111111111111111111111111111111111\
+    11111111111111111111111111111111111111111111111111111111111111111111111111111111111111\
+    11111111111111111111111111111111111111111111111111111111111111111111111111111111111111\
+    11111111111111111111111111111111111111111111111111111111111111111,^}",
 ];
 
 fn push_times(text: &mut Vec<u8>, piece: &[u8], times: usize) -> Result<(), AllocError> {
@@ -420,9 +497,11 @@ fn the_first_check_that_fails_is_the_refusal(rt: HostRuntime) -> Result<(), Fail
 #[test]
 fn texts_that_are_no_json_are_not_read(rt: HostRuntime) -> Result<(), Fail> {
     let alloc = rt.alloc();
+    let keyring = Keyring::read(alloc, KEYS)?;
     for template in NOT_JSON {
         let text = filled(alloc, template)?;
-        assert!(rt; Value::from_slice(alloc, &text).is_err());
+        let fault = document_of(alloc, &keyring, &text).err();
+        assert_eq!(rt; fault, Some(ReadFault::NotJson));
     }
     Ok(())
 }

@@ -154,9 +154,9 @@ fn keeps_root<O: Objects>(objects: &mut O, rid: &Rid, refs: &Refs) -> Result<boo
     Ok(keeps)
 }
 
-/// The refs that a node's commit says, as the Radicle Heartwood protocol signs them. The tree of
-/// the commit has the blobs `refs`, as `read_refs` reads it, and `signature`, of 64 bytes. The
-/// keyring accepts the node's signature over the bytes of the refs. A ref `refs/rad/root`, where
+/// The refs that a node's commit says. The tree of the commit has the blobs `refs`, as `read_refs`
+/// reads it, and `signature`, of 64 bytes: after the Radicle Heartwood protocol, in this project's
+/// own form. The keyring accepts the node's signature over the bytes of the refs. A ref `refs/rad/root`, where
 /// there is one, names an identity root of the repository. Other entries of the tree are unread;
 /// the commit may have any number of parents, and they need not be signed.
 ///

@@ -255,6 +255,9 @@ fn what_is_read_is_written_back(rt: HostRuntime) -> Result<(), Fail> {
     assert_eq!(rt; write_refs(alloc, &refs)?.as_slice(), blob.as_slice());
     let none = Refs::new(alloc);
     assert_eq!(rt; write_refs(alloc, &none)?.len(), 0);
+    assert_eq!(rt; Refs::of(refs.into_vec()).len(), 2);
+    let name = RefName::of(b"refs/heads/a".to_vec(alloc)?);
+    assert_eq!(rt; name.into_vec().as_slice(), b"refs/heads/a".as_slice());
     Ok(())
 }
 

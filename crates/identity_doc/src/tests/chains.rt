@@ -266,3 +266,18 @@ fn changes_need_a_majority_of_the_delegates_before(rt: HostRuntime) -> Result<()
     }
     Ok(())
 }
+
+#[test]
+fn a_malformed_tree_is_told(rt: HostRuntime) -> Result<(), Fail> {
+    let alloc = rt.alloc();
+    let keyring = keyring_of(alloc, b"", b"")?;
+    let mut objects = MemObjects::new(alloc);
+    let mut names = Vec::new(alloc);
+    let templates: [(Kind, &[u8]); 2] = [(Kind::Tree, b"no tree"), (Kind::Commit, b"tree #A\n~")];
+    put_all(alloc, &mut objects, &mut names, &templates)?;
+    let tree = names.first().copied().unwrap_or(NO_NAME);
+    let tip = names.last().copied().unwrap_or(NO_NAME);
+    let wanted = Wanted::BadObject(tree);
+    assert!(rt; is_told(alloc, &objects, &keyring, NO_NAME, tip, wanted));
+    Ok(())
+}

@@ -13,6 +13,7 @@ use std::test::Fail;
 pub(crate) enum Wanted {
     Read(usize, u8),
     Missing(Oid),
+    BadObject(Oid),
     TwoParents,
     NoDocument,
     WrongRoot,
@@ -26,6 +27,7 @@ fn fault_at(wanted: Wanted, tip: Oid) -> Option<IdFault> {
     Some(match wanted {
         Wanted::Read(..) => return None,
         Wanted::Missing(oid) => IdFault::Missing(oid),
+        Wanted::BadObject(oid) => IdFault::BadObject(oid),
         Wanted::TwoParents => IdFault::TwoParents(tip),
         Wanted::NoDocument => IdFault::NoDocument(tip),
         Wanted::WrongRoot => IdFault::WrongRoot(tip),
