@@ -124,6 +124,7 @@ impl Disk for MemDisk {
         Ok(copy_from(self.bytes(), place, into))
     }
 
+    // A write that is not to fail and finds no memory leaves all as it was.
     fn write_at(&mut self, place: u64, bytes: &[u8]) -> Result<(), Failed>
         ensures written { OnOk result (Changes (Writes place bytes.now)
             (Some (state_of self.old.log).reads) (Some (state_of self.new.log).reads)) }
@@ -134,6 +135,8 @@ impl Disk for MemDisk {
         ensures cause { HasCause self.old.faults self.new.faults result }
         ensures time { Elapses (moment_of self.old.log) (moment_of self.new.log)
             (since_of self.old.log) (since_of self.new.log) (IsImage (state_of self.new.log)) }
+        ensures unwritten { OnErr result (¬ FailsNext (fails_of self.old)
+            → state_of self.new.log ≡ state_of self.old.log) }
         ensures calls { HadCall (fails_of self.old) (fails_of self.new) result }
     {
         let to_fail = self.fails.fails_next();
