@@ -189,7 +189,7 @@ module _ (m : ObjectMap) (known : BTreeSet Oid) (roots : List Root) (p : Root) (
             judges = judges_fit linked.fit t.1 t.2;
             looked' = l.looked';
             opened' = p.oid ∷ opened;
-            holds = links_open l.holds (record { pair = p; here = here; name = refl; unknown = unknown }) e t.0 s.facts s.waiting;
+            holds = links_open l.holds (record { pair = p; here = here; name = refl; unknown = unknown; fit = linked.fit }) e t.0 s.facts s.waiting;
             cost = omega (arith, l.cost);
           }
 

@@ -13,14 +13,14 @@ use Rattle.commit_graph.specs.Objects.{Object, ObjectMap}
 use Rattle.commit_graph.specs.Pairs.{Accepts, IsFit, IsLink}
 use Rattle.commit_graph.specs.Walks.{Reached}
 use Rattle.commit_graph.specs.Closures.{IsReached, IsHeld, IsClosed, HasName}
-use Rattle.commit_graph.specs.Beyond.{IsKnown, IsClosedName, AllClosed, IsLinkBeyond, IsReachedBeyond, CoversBeyond, GrowsBeyond, link_count}
+use Rattle.commit_graph.specs.Beyond.{IsKnown, IsClosedName, AllClosed, IsLinkBeyond, IsReachedBeyond, CoversBeyond, CoversFitBeyond, GrowsBeyond, link_count}
 use Rattle.commit_graph.proofs.Members.{contains_at, contains_head, contains_one}
 use Rattle.commit_graph.proofs.Walked.{reached_root, reached_step, reached_stays, reached_along}
 use Rattle.commit_graph.proofs.Spread.{Spread, spread_end}
 use Rattle.commit_graph.proofs.PairSteps.{one_object}
 use Rattle.commit_graph.proofs.ClosureTurns.{Covers}
 use Rattle.commit_graph.proofs.Repeats.{sum_by-le, sum_by-one}
-use Rattle.commit_graph.proofs.FactsHold.{IsMetName}
+use Rattle.commit_graph.proofs.FactsHold.{IsMetName, IsOpenedName}
 use Rattle.commit_graph.proofs.BeyondTurns.{Search}
 
 -- what is reached over no known name is reached
@@ -77,12 +77,16 @@ module _ (m : ObjectMap) (known : BTreeSet Oid) (roots : List Root) (i : ℕ) (q
       → IsMetName queue known oid → Contains names oid
   met_covered names cover oid t = cover oid (record { pair = t.pair; reached = h.spread.sound t.pair t.here; name = t.name }) t.unknown
 
+  opened_covered : (names : List Oid) → CoversFitBeyond m known roots names → (oid : Oid)
+      → IsOpenedName m queue known oid → Contains names oid
+  opened_covered names cover oid t = cover oid (record { pair = t.pair; reached = h.spread.sound t.pair t.here; name = t.name; fit = t.fit }) t.unknown
+
   -- while it runs
-  pub cost_within : (names : List Oid) → CoversBeyond m known roots names
-      → ticks + length queue ≤ start + i + length names + sum_by (link_count m) names + length roots
-  cost_within names cover =
+  pub cost_within : (names fit : List Oid) → CoversBeyond m known roots names → CoversFitBeyond m known roots fit
+      → ticks + length queue ≤ start + i + length names + sum_by (link_count m) fit + length roots
+  cost_within names fit cover cover_fit =
       let a = sum_by-le (λ (n : Oid). 1) h.looked names h.holds.looked_once (λ n c. met_covered names cover n (h.holds.looked_met n c)) in
-      let b = sum_by-le (link_count m) h.opened names h.holds.opened_once (λ n c. met_covered names cover n (h.holds.opened_met n c)) in
+      let b = sum_by-le (link_count m) h.opened fit h.holds.opened_once (λ n c. opened_covered fit cover_fit n (h.holds.opened_met n c)) in
       omega (arith, a, b, sum_by-one h.looked, sum_by-one names, h.cost, h.holds.lengths)
 
   -- there is a root while there is a pair

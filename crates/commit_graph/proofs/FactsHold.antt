@@ -17,7 +17,7 @@ use Rattle.commit_graph.specs.declared.facts.Fact.{Fact}
 use Rattle.commit_graph.specs.declared.facts.Fact.TheVariants.{Missing, Malformed, Formed}
 use Rattle.commit_graph.specs.declared.facts.Facts.{Facts}
 use Rattle.commit_graph.specs.Objects.{ObjectMap}
-use Rattle.commit_graph.specs.Pairs.{pair_of}
+use Rattle.commit_graph.specs.Pairs.{IsFit, pair_of}
 use Rattle.commit_graph.specs.Chains.{NoRepeat}
 use Rattle.commit_graph.specs.Beyond.{links_in, link_count}
 use Rattle.commit_graph.specs.Facts.{IsFact, IsLearned, IsLookedUp, fact_in, waiting_in, waiting_after}
@@ -31,6 +31,14 @@ pub record IsMetName (queue : List Root) (known : BTreeSet Oid) (oid : Oid) : Ty
   pub name : pair.oid ≡ oid
   pub unknown : contains oid_cmp known oid ≡ false
 
+-- a fit pair of this name, which is not known, was met
+pub record IsOpenedName (m : ObjectMap) (queue : List Root) (known : BTreeSet Oid) (oid : Oid) : Type 0 where
+  pub pair : Root
+  pub here : Contains queue pair
+  pub name : pair.oid ≡ oid
+  pub unknown : contains oid_cmp known oid ≡ false
+  pub fit : IsFit m pair
+
 -- the facts are true; the links of a well-formed object wait or are in the queue; and what was looked up and opened is a list without repeats
 pub record FactsHold (m : ObjectMap) (known : BTreeSet Oid) (roots queue : List Root) (facts : Oid → Option Fact) (waiting : Oid → Option (List LinkTo)) (looked opened : List Oid) : Type 0 where
   pub true_facts : (n : Oid) (f : Fact) → facts n ≡ Some f → IsFact m n f
@@ -43,7 +51,7 @@ pub record FactsHold (m : ObjectMap) (known : BTreeSet Oid) (roots queue : List 
   pub looked_once : NoRepeat looked
   pub opened_once : NoRepeat opened
   pub looked_met : (n : Oid) → Contains looked n → IsMetName queue known n
-  pub opened_met : (n : Oid) → Contains opened n → IsMetName queue known n
+  pub opened_met : (n : Oid) → Contains opened n → IsOpenedName m queue known n
   pub lengths : length queue ≡ length roots + sum_by (link_count m) opened
 
 -- ---- names are one or two
@@ -170,13 +178,14 @@ length_map f (x ∷ xs) = omega (arith, length_map f xs)
 -- ---- the links of the name n go onto the queue
 
 pub links_open : {m : ObjectMap} {known : BTreeSet Oid} {roots queue queue' : List Root} {ls : List LinkTo} {facts facts' : Oid → Option Fact} {waiting waiting' : Oid → Option (List LinkTo)} {looked opened : List Oid} {n : Oid}
-    → FactsHold m known roots queue facts waiting looked opened → IsMetName queue known n
+    → FactsHold m known roots queue facts waiting looked opened → IsOpenedName m queue known n
     → waiting n ≡ Some ls → queue' ≡ queue ++ map pair_of ls → ((q : Oid) → facts' q ≡ facts q)
     → ((q : Oid) → waiting' q ≡ cond (is_at (oid_cmp n) q) None (waiting q))
     → FactsHold m known roots queue' facts' waiting' looked (n ∷ opened)
 links_open {m} {known} {roots} {queue} {queue'} {ls} {facts} {facts'} {waiting} {waiting'} {looked} {opened} {n} h here s e same after =
     let more : (r : Root) → Contains queue r → Contains queue' r = λ r c. subst (λ (xs : List Root). Contains xs r) (sym e) (Contains-append_left queue (map pair_of ls) r c) in
     let met : (q : Oid) → IsMetName queue known q → IsMetName queue' known q = λ q t. record { pair = t.pair; here = more t.pair t.here; name = t.name; unknown = t.unknown } in
+    let opens : (q : Oid) → IsOpenedName m queue known q → IsOpenedName m queue' known q = λ q t. record { pair = t.pair; here = more t.pair t.here; name = t.name; unknown = t.unknown; fit = t.fit } in
     let now : waiting' n ≡ None = at_same n n None (waiting n) _ (after n) refl in
     let else' : (q : Oid) → (n ≡ q → ⊥) → waiting' q ≡ waiting q = λ q ne. at_other n q None (waiting q) _ (after q) ne in
     record {
@@ -201,7 +210,7 @@ links_open {m} {known} {roots} {queue} {queue'} {ls} {facts} {facts'} {waiting} 
       looked_once = h.looked_once;
       opened_once = (λ c. some_none s (h.opened_taken n c), h.opened_once);
       looked_met = λ q c. met q (h.looked_met q c);
-      opened_met = λ q c. ⊎_elim (λ b. subst (IsMetName queue' known) b (met n here)) (λ b. met q (h.opened_met q b)) (contains_cases n opened q c);
+      opened_met = λ q c. ⊎_elim (λ b. subst (IsOpenedName m queue' known) b (opens n here)) (λ b. opens q (h.opened_met q b)) (contains_cases n opened q c);
       lengths = omega (arith, h.lengths, ap length e, length-append queue (map pair_of ls), length_map pair_of ls, ap length (h.true_waiting n ls s), sum_by-cons (link_count m) n opened);
     }
 

@@ -12,7 +12,7 @@ use Rattle.commit_graph.specs.declared.answer.Closure.TheVariants.{Closed, Missi
 use Rattle.commit_graph.specs.declared.fault.GetFault.{GetFault}
 use Rattle.commit_graph.specs.declared.fault.GetFault.TheVariants.{DiskFault, Changed, NoMemory}
 use Rattle.commit_graph.specs.Objects.{Object, ObjectMap}
-use Rattle.commit_graph.specs.Pairs.{IsLink}
+use Rattle.commit_graph.specs.Pairs.{IsFit, IsLink}
 use Rattle.commit_graph.specs.Walks.{Reached}
 use Rattle.commit_graph.specs.Closures.{IsClosed}
 
@@ -46,6 +46,18 @@ pub record IsReachedBeyond (objects : ObjectMap) (known : BTreeSet Oid) (roots :
 abbrev pub CoversBeyond : ObjectMap → BTreeSet Oid → List Root → List Oid → Type 0
 CoversBeyond objects known roots names =
     (oid : Oid) → IsReachedBeyond objects known roots oid → contains oid_cmp known oid ≡ false → Contains names oid
+
+-- a walk over no known name leads from a root to a pair of this name, whose object is as expected and well formed
+pub record IsFitBeyond (objects : ObjectMap) (known : BTreeSet Oid) (roots : List Root) (oid : Oid) : Type 0 where
+  pub pair : Root
+  pub reached : Reached (IsLinkBeyond objects known) roots pair
+  pub name : pair.oid ≡ oid
+  pub fit : IsFit objects pair
+
+-- each name that is so reached as fit and not known is among these
+abbrev pub CoversFitBeyond : ObjectMap → BTreeSet Oid → List Root → List Oid → Type 0
+CoversFitBeyond objects known roots names =
+    (oid : Oid) → IsFitBeyond objects known roots oid → contains oid_cmp known oid ≡ false → Contains names oid
 
 -- the links of an object, none where there is none
 abbrev pub links_in : Option Object → List LinkTo

@@ -5,7 +5,7 @@ ghost use Rattle.commit_graph.specs.Faults.{HasCause};
 ghost use Rattle.commit_graph.specs.Pairs.{pair_of};
 ghost use Rattle.commit_graph.specs.Walks.{Reached};
 ghost use Rattle.commit_graph.specs.Closures.{IsClosure};
-ghost use Rattle.commit_graph.specs.Beyond.{AllClosed, IsLinkBeyond, CoversBeyond, link_count, GrowsBeyond, Leaves};
+ghost use Rattle.commit_graph.specs.Beyond.{AllClosed, IsLinkBeyond, CoversBeyond, CoversFitBeyond, link_count, GrowsBeyond, Leaves};
 ghost use Rattle.commit_graph.specs.Facts.{IsAccepted, IsMet};
 
 use crate::answer::Closure;
@@ -102,9 +102,9 @@ fn search<O: Objects, L: Ledger>(
     ensures told { ForSome (O.content objects.old) (λ m. IfOk result (λ s. IsClosure m roots.now s.answer)) }
     ensures reach { ForSome (O.content objects.old) (λ m. IfOk result (λ s. (pair : Root)
         → Contains s.pairs.items pair ↔ Reached (IsLinkBeyond m known.now) roots.now pair)) }
-    ensures cost { ForSome (O.content objects.old) (λ m. (names : List Oid)
-        → CoversBeyond m known.now roots.now names
-        → steps.new ≤ steps.old + length names + sum_by (link_count m) names + 2 * length roots.now) }
+    ensures cost { ForSome (O.content objects.old) (λ m. (names fit : List Oid)
+        → CoversBeyond m known.now roots.now names → CoversFitBeyond m known.now roots.now fit
+        → steps.new ≤ steps.old + length names + sum_by (link_count m) fit + 2 * length roots.now) }
     ensures kept { O.content objects.new ≡ O.content objects.old }
     ensures beside { O.beside objects.new ≡ O.beside objects.old }
     ensures cause { HasCause (O.content objects.old) (O.faults objects.old) (O.faults objects.new) result }
@@ -138,7 +138,8 @@ fn search<O: Objects, L: Ledger>(
 ///
 /// A step is one look-up of an object or one test of a link, which at a known name includes the look
 /// at its object's kind. Where the objects are told there are at most as many as the names that are
-/// so reached and were not known, and the links of their objects, and twice the roots.
+/// so reached and were not known, and the links of those of them whose objects are as expected and
+/// well formed, and twice the roots.
 pub fn closure_beyond<O: Objects, L: Ledger>(
     alloc: Global,
     objects: &mut O,
@@ -151,9 +152,9 @@ pub fn closure_beyond<O: Objects, L: Ledger>(
     ensures grown { ForSome (O.content objects.old) (λ m. IfOk result (GrowsBeyond m known.old roots.now known.new)) }
     ensures left { Leaves result known.old known.new }
     ensures closed { ForSome (O.content objects.old) (λ m. AllClosed m known.new) }
-    ensures cost { ForSome (O.content objects.old) (λ m. (names : List Oid)
-        → CoversBeyond m known.old roots.now names
-        → steps.new ≤ steps.old + length names + sum_by (link_count m) names + 2 * length roots.now) }
+    ensures cost { ForSome (O.content objects.old) (λ m. (names fit : List Oid)
+        → CoversBeyond m known.old roots.now names → CoversFitBeyond m known.old roots.now fit
+        → steps.new ≤ steps.old + length names + sum_by (link_count m) fit + 2 * length roots.now) }
     ensures kept { O.content objects.new ≡ O.content objects.old }
     ensures beside { O.beside objects.new ≡ O.beside objects.old }
     ensures cause { HasCause (O.content objects.old) (O.faults objects.old) (O.faults objects.new) result }

@@ -22,18 +22,18 @@ loop-i-init g c = record {
 }
 
 pub returns-in_err-meet-clause-cost : goal.returns-in_err-meet-clause-cost
-returns-in_err-meet-clause-cost g c = λ m e names cover.
+returns-in_err-meet-clause-cost g c = λ m e names fit cover cover_fit.
     let at : slice_get c.loop-i.queue.items c.loop-i.i ≡ Some c.pair_at-pair.result = subst (λ (xs : List Root). slice_get xs c.loop-i.i ≡ Some c.pair_at-pair.result) c.deref.ensures.value c.pair_at-pair.ensures in
     let h = c.loop-i.invariant.progress m e in
     let within = slice_get_within c.loop-i.queue.items c.loop-i.i c.pair_at-pair.result at in
-    omega (arith, within, cost_within m _ _ _ _ _ _ _ _ _ h names cover, has_root m _ _ _ _ _ _ _ _ _ h c.pair_at-pair.result at, c.in_err-meet.ensures.cost)
+    omega (arith, within, cost_within m _ _ _ _ _ _ _ _ _ h names fit cover cover_fit, has_root m _ _ _ _ _ _ _ _ _ h c.pair_at-pair.result at, c.in_err-meet.ensures.cost)
 
 pub returns-in_err-append-in-Fit-clause-cost : goal.returns-in_err-append-in-Fit-clause-cost
-returns-in_err-append-in-Fit-clause-cost g c = λ m e names cover.
+returns-in_err-append-in-Fit-clause-cost g c = λ m e names fit cover cover_fit.
     let at : slice_get c.loop-i.queue.items c.loop-i.i ≡ Some c.pair_at-pair.result = subst (λ (xs : List Root). slice_get xs c.loop-i.i ≡ Some c.pair_at-pair.result) c.deref.ensures.value c.pair_at-pair.ensures in
     let h = c.loop-i.invariant.progress m e in
     let within = slice_get_within c.loop-i.queue.items c.loop-i.i c.pair_at-pair.result at in
-    omega (arith, within, cost_within m _ _ _ _ _ _ _ _ _ h names cover, has_root m _ _ _ _ _ _ _ _ _ h c.pair_at-pair.result at, c.in_ok-meet.ensures.cost)
+    omega (arith, within, cost_within m _ _ _ _ _ _ _ _ _ h names fit cover cover_fit, has_root m _ _ _ _ _ _ _ _ _ h c.pair_at-pair.result at, c.in_ok-meet.ensures.cost)
 
 pub loop-i-preserved : goal.loop-i-preserved
 loop-i-preserved g c = record {
@@ -73,6 +73,6 @@ returns-clause-reach g c = λ m e.
     spread_all (c.loop-i.invariant.progress m e).spread whole
 
 pub returns-clause-cost : goal.returns-clause-cost
-returns-clause-cost g c = λ m e names cover.
+returns-clause-cost g c = λ m e names fit cover cover_fit.
     let h = c.loop-i.invariant.progress m e in
-    omega (arith, cost_within m _ _ _ _ _ _ _ _ _ h names cover, h.within)
+    omega (arith, cost_within m _ _ _ _ _ _ _ _ _ h names fit cover cover_fit, h.within)
