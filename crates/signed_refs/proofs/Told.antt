@@ -17,7 +17,7 @@ use Rattle.signed_refs.specs.Lines.{Line, SpellsRefs}
 use Rattle.signed_refs.specs.Refusals.{IsGetCause}
 use Rattle.signed_refs.specs.Signed.{HasBlob, HasSigrefs, IsClosedCommit, KeepsRoot, Signed, Sigrefs}
 use Rattle.signed_refs.specs.Refusals.{Refuses}
-use Rattle.signed_refs.specs.Steps.{AreRefs, BecomesFault, FindsSignature, IsAcceptedAs, RefusesText, RefusesUnaccepted}
+use Rattle.signed_refs.specs.SignedParts.{AreRefs, BecomesFault, FindsSignature, IsAcceptedAs, RefusesText, RefusesUnaccepted}
 use Rattle.signed_refs.specs.declared.fault.SigFault.{SigFault}
 use Rattle.signed_refs.specs.declared.fault.SigFault.TheVariants.{BadObject, BadSigrefs, Get, Grafted, Missing, NotAccepted}
 use Rattle.signed_refs.specs.Readings.{Explains}

@@ -3,4 +3,4 @@ pub mod Namespaces
 pub mod Readings
 pub mod Refusals
 pub mod Signed
-pub mod Steps
+pub mod SignedParts

@@ -54,7 +54,7 @@ impl From<GetFault> for SigFault {
 }
 
 impl From<RefsFault> for SigFault {
-    ghost use Rattle.signed_refs.specs.Steps.{BecomesFault};
+    ghost use Rattle.signed_refs.specs.SignedParts.{BecomesFault};
 
     ghost from_gives = { BecomesFault };
 

@@ -11,8 +11,8 @@ ghost use Rattle.keyring.specs.Contents.{accepts};
 ghost use Rattle.signed_refs.specs.Lines.{SpellsRefs};
 ghost use Rattle.signed_refs.specs.Refusals.{HasSigCause, Refuses};
 ghost use Rattle.signed_refs.specs.Signed.{IsClosedCommit, KeepsRoot, Signed};
-ghost use Rattle.signed_refs.specs.Steps.{FindsSignature, IsAcceptedAs, IsOpen};
-ghost use Rattle.signed_refs.specs.Steps.{RefusesText, RefusesUnaccepted};
+ghost use Rattle.signed_refs.specs.SignedParts.{FindsSignature, IsAcceptedAs, RefusesAlways};
+ghost use Rattle.signed_refs.specs.SignedParts.{RefusesText, RefusesUnaccepted};
 
 use crate::{Refs, SigFault, read_refs};
 use commit_graph::answer::Closure;
@@ -27,7 +27,7 @@ use tree_entry::{commit_entry, is_identity_root};
 fn check_closed<O: Objects>(alloc: Global, objects: &mut O, commit: &Oid) -> Result<(), SigFault>
     ensures told { ForSome (O.content objects.old)
         (λ m. OnOk result (IsClosedCommit m commit.now)) }
-    ensures refused { ForSome (O.content objects.old) (λ m. IfErr result (IsOpen m commit.now)) }
+    ensures refused { ForSome (O.content objects.old) (λ m. IfErr result (RefusesAlways m commit.now)) }
     ensures kept { O.content objects.new ≡ O.content objects.old }
     ensures beside { O.beside objects.new ≡ O.beside objects.old }
     ensures cause { HasSigCause (O.content objects.old)

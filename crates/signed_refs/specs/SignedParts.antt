@@ -1,4 +1,4 @@
--- What the steps of `signed` answer.
+-- What the parts of `signed` answer.
 use Rattle.std.specs.Prelude.{◌≡◌, ℕ, List, codes, IsTrue, Option, None, Some}
 use Rattle.rad_base.specs.declared.names.Nid.{Nid}
 use Rattle.rad_base.specs.declared.names.Oid.{Oid}
@@ -23,8 +23,8 @@ BecomesFault reading.TooMany fault = fault ≡ BadSigrefs
 BecomesFault reading.NoMemory fault = fault ≡ Get gets.NoMemory
 
 -- the fault refuses the commit, whatever the keyring, the repository and the node
-abbrev pub IsOpen : ObjectMap → Oid → SigFault → Type 0
-IsOpen objects commit fault = (keyring : Contents) (rid : Rid) (node : Nid) → Refuses objects keyring rid node commit fault
+abbrev pub RefusesAlways : ObjectMap → Oid → SigFault → Type 0
+RefusesAlways objects commit fault = (keyring : Contents) (rid : Rid) (node : Nid) → Refuses objects keyring rid node commit fault
 
 -- the signature that is a blob of the commit
 abbrev pub HasSignature : ObjectMap → Oid → Sig → Type 0
