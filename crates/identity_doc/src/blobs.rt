@@ -32,7 +32,8 @@ pub(crate) fn document_in<O: Objects>(
         IfErr result (FailsBlob m keyring.now commit blob.now)) }
     ensures kept { O.content objects.new ≡ O.content objects.old }
     ensures beside { O.beside objects.new ≡ O.beside objects.old }
-    ensures cause { HasGetCause (O.content objects.old) (O.faults objects.old) (O.faults objects.new) result }
+    ensures cause { HasGetCause (O.content objects.old)
+        (O.faults objects.old) (O.faults objects.new) result }
 {
     match objects.get(blob)? {
         Some((Kind::Blob, bytes)) => match document_of(alloc, keyring, bytes) {
@@ -55,10 +56,12 @@ fn lines_in<O: Objects>(
     ensures lines { IfOk result (λ lines. AreLines lines.items) }
     ensures told { ForSome (O.content objects.old) (λ m. IfOk result (λ lines.
         (bytes : List ℕ) × HasBlob m blob.now bytes × AreSignatures bytes lines.items)) }
-    ensures refused { ForSome (O.content objects.old) (λ m. IfErr result (FailsLines m commit blob.now)) }
+    ensures refused { ForSome (O.content objects.old)
+        (λ m. IfErr result (FailsLines m commit blob.now)) }
     ensures kept { O.content objects.new ≡ O.content objects.old }
     ensures beside { O.beside objects.new ≡ O.beside objects.old }
-    ensures cause { HasGetCause (O.content objects.old) (O.faults objects.old) (O.faults objects.new) result }
+    ensures cause { HasGetCause (O.content objects.old)
+        (O.faults objects.old) (O.faults objects.new) result }
 {
     match objects.get(blob)? {
         Some((Kind::Blob, bytes)) => match read_signatures(alloc, bytes) {
@@ -83,7 +86,8 @@ pub(crate) fn signatures_at<O: Objects>(
         (λ m. IfErr result (FailsSignatures m commit)) }
     ensures kept { O.content objects.new ≡ O.content objects.old }
     ensures beside { O.beside objects.new ≡ O.beside objects.old }
-    ensures cause { HasGetCause (O.content objects.old) (O.faults objects.old) (O.faults objects.new) result }
+    ensures cause { HasGetCause (O.content objects.old)
+        (O.faults objects.old) (O.faults objects.new) result }
 {
     let Some(blob) = embedded(objects, &commit, b"signatures")? else {
         return Err(IdFault::BadSignatures(commit, 0));

@@ -30,7 +30,8 @@ pub(crate) fn first_document<O: Objects>(
         (λ m. IfErr result (FailsFirst m keyring.now rid.now root)) }
     ensures kept { O.content objects.new ≡ O.content objects.old }
     ensures beside { O.beside objects.new ≡ O.beside objects.old }
-    ensures cause { HasGetCause (O.content objects.old) (O.faults objects.old) (O.faults objects.new) result }
+    ensures cause { HasGetCause (O.content objects.old)
+        (O.faults objects.old) (O.faults objects.new) result }
 {
     let Some(blob) = embedded(objects, &root, b"radicle.json")? else {
         return Err(IdFault::NoDocument(root));
@@ -59,7 +60,8 @@ fn approve<O: Objects>(
         (λ m. IfErr result (FailsApproval m keyring.now parent before.now commit)) }
     ensures kept { O.content objects.new ≡ O.content objects.old }
     ensures beside { O.beside objects.new ≡ O.beside objects.old }
-    ensures cause { HasGetCause (O.content objects.old) (O.faults objects.old) (O.faults objects.new) result }
+    ensures cause { HasGetCause (O.content objects.old)
+        (O.faults objects.old) (O.faults objects.new) result }
 {
     let lines = signatures_at(alloc, objects, commit)?;
     let message = change_message(alloc, &parent, blob)?;
@@ -89,7 +91,8 @@ pub(crate) fn changed_document<O: Objects>(
         (λ m. IfErr result (FailsChange m keyring.now parent before.now commit)) }
     ensures kept { O.content objects.new ≡ O.content objects.old }
     ensures beside { O.beside objects.new ≡ O.beside objects.old }
-    ensures cause { HasGetCause (O.content objects.old) (O.faults objects.old) (O.faults objects.new) result }
+    ensures cause { HasGetCause (O.content objects.old)
+        (O.faults objects.old) (O.faults objects.new) result }
 {
     let Some(blob) = embedded(objects, &commit, b"radicle.json")? else {
         return Err(IdFault::NoDocument(commit));

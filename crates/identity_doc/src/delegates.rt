@@ -34,7 +34,8 @@ pub(crate) fn element_keys(
     keyring: &Keyring,
     elements: &[Value],
 ) -> Result<Nids, DocFault>
-    ensures read { IfOk result (λ keys. element_keys keyring.now (map view elements.now) ≡ Ok keys) }
+    ensures read { IfOk result (λ keys.
+        element_keys keyring.now (map view elements.now) ≡ Ok keys) }
     ensures count { IfOk result (λ keys. length keys ≡ length elements.now) }
     ensures refused { IfErr result (λ fault.
         fault ≢ NoMemory → element_keys keyring.now (map view elements.now) ≡ Err fault) }

@@ -1,7 +1,8 @@
 // The checks of a document that take no memory.
 ghost use Rattle.std.specs.Prelude.{◌≡◌, ◌≤◌, IfOk, IfErr, OnOk, Ok, Err, map, length};
 ghost use Rattle.serde_json.specs.View.{number_view, view};
-ghost use Rattle.identity_doc.specs.Documents.{key_in, delegate_elements, counted_elements, threshold_number, threshold_within, payload_object};
+ghost use Rattle.identity_doc.specs.Documents.{key_in, delegate_elements, counted_elements};
+ghost use Rattle.identity_doc.specs.Documents.{threshold_number, threshold_within, payload_object};
 
 use crate::fault::{DocFault, Field};
 use keyring::Keyring;
@@ -21,7 +22,8 @@ pub(crate) fn key_in(keyring: &Keyring, element: &Value) -> Option<Nid>
 /// The elements of `delegates`.
 #[tactic(auto, using(crate::proofs::Elements::elements_view))]
 pub(crate) fn delegate_elements(value: &Value) -> Result<&[Value], DocFault>
-    ensures read { IfOk result (λ elements. delegate_elements (view value.now) ≡ Ok (map view elements.now)) }
+    ensures read { IfOk result (λ elements.
+        delegate_elements (view value.now) ≡ Ok (map view elements.now)) }
     ensures refused { IfErr result (λ fault. delegate_elements (view value.now) ≡ Err fault) }
 {
     match value.get("delegates").and_then(Value::as_array) {
@@ -45,7 +47,8 @@ pub(crate) fn counted_elements(elements: &[Value]) -> Result<(), DocFault>
 
 /// The number that is the threshold.
 pub(crate) fn threshold_number(value: &Value) -> Result<&Number, DocFault>
-    ensures read { IfOk result (λ number. threshold_number (view value.now) ≡ Ok (number_view number.now)) }
+    ensures read { IfOk result (λ number.
+        threshold_number (view value.now) ≡ Ok (number_view number.now)) }
     ensures refused { IfErr result (λ fault. threshold_number (view value.now) ≡ Err fault) }
 {
     match value.get("threshold").and_then(Value::as_number) {
@@ -67,7 +70,8 @@ pub(crate) fn threshold_within(count: usize, number: &Number) -> Result<u8, DocF
 
 /// The payload, which is an object.
 pub(crate) fn payload_object(value: &Value) -> Result<&Value, DocFault>
-    ensures read { IfOk result (λ payload. payload_object (view value.now) ≡ Ok (view payload.now)) }
+    ensures read { IfOk result (λ payload.
+        payload_object (view value.now) ≡ Ok (view payload.now)) }
     ensures refused { IfErr result (λ fault. payload_object (view value.now) ≡ Err fault) }
 {
     match value.get("payload") {

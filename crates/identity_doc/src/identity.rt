@@ -26,7 +26,8 @@ fn commits_to<O: Objects>(alloc: Global, objects: &mut O, tip: &Oid) -> Result<C
     ensures refused { ForSome (O.content objects.old) (λ m. IfErr result (IsWalkFault m tip.now)) }
     ensures kept { O.content objects.new ≡ O.content objects.old }
     ensures beside { O.beside objects.new ≡ O.beside objects.old }
-    ensures cause { HasGetCause (O.content objects.old) (O.faults objects.old) (O.faults objects.new) result }
+    ensures cause { HasGetCause (O.content objects.old)
+        (O.faults objects.old) (O.faults objects.new) result }
 {
     let roots = [Root {
         oid: *tip,
@@ -58,7 +59,8 @@ fn last_document<O: Objects>(
         → IsChain m (root ∷ later.now) tip → IfErr result (FailsLine m keyring.now rid.now tip)) }
     ensures kept { O.content objects.new ≡ O.content objects.old }
     ensures beside { O.beside objects.new ≡ O.beside objects.old }
-    ensures cause { HasGetCause (O.content objects.old) (O.faults objects.old) (O.faults objects.new) result }
+    ensures cause { HasGetCause (O.content objects.old)
+        (O.faults objects.old) (O.faults objects.new) result }
 {
     let mut doc = first_document(alloc, objects, keyring, rid, root)?;
     let mut parent = root;
@@ -71,15 +73,17 @@ fn last_document<O: Objects>(
 }
 
 /// The document of a tip: that of the last commit of its identity chain. Identity commits are after
-/// the Radicle Heartwood protocol, in this project's own form. The tree of each commit has a directory `embeds`, in which
-/// `radicle.json` is the document, as JSON. The first commit has no parent, and its document blob has
-/// the repository's name. Each later one has the one before as its only parent, and a blob
-/// `signatures` in `embeds`, in which more than half of the delegates before it signed the change.
+/// the Radicle Heartwood protocol, in this project's own form. The tree of each commit has a
+/// directory `embeds`, in which `radicle.json` is the document, as JSON. The first commit has no
+/// parent, and its document blob has the repository's name. Each later one has the one before as
+/// its only parent, and a blob `signatures` in `embeds`, in which more than half of the delegates
+/// before it signed the change.
 ///
 /// The refusal is the first that fails: `Missing` or `BadObject`, where the tip is not closed as a
 /// commit; `TwoParents` or `NoRoot`, where no line of commits leads to it; and then, at the first
 /// commit from the root that breaks a rule, `NoDocument`, `WrongRoot`, `NotJson`, `BadDocument`,
-/// `BadSignatures` or `TooFew`. `Get` comes where an object could not be had, or memory was refused.
+/// `BadSignatures` or `TooFew`. `Get` comes where an object could not be had, or memory was
+/// refused.
 ///
 /// It takes one closure and one walk, in O(n log n) for n objects, and reads each document once.
 pub fn id_chain<O: Objects>(
@@ -95,7 +99,8 @@ pub fn id_chain<O: Objects>(
         (λ m. IfErr result (IsIdFault m keyring.now rid.now tip.now)) }
     ensures kept { O.content objects.new ≡ O.content objects.old }
     ensures beside { O.beside objects.new ≡ O.beside objects.old }
-    ensures cause { HasGetCause (O.content objects.old) (O.faults objects.old) (O.faults objects.new) result }
+    ensures cause { HasGetCause (O.content objects.old)
+        (O.faults objects.old) (O.faults objects.new) result }
 {
     let commits = commits_to(alloc, objects, tip)?;
     let Some((root, later)) = commits.as_slice().split_first() else {

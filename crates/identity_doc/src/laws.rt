@@ -47,17 +47,17 @@ pub fn delegate_keys()
 
 /// A tip has at most one identity chain, and at most one document.
 pub fn one_identity()
-    ensures chain { (objects : ObjectMap) (keyring : Contents) (rid : Rid) (tip : Oid) (a b : List Oid)
-        → IsIdentityChain objects keyring rid tip a → IsIdentityChain objects keyring rid tip b
-        → a ≡ b }
-    ensures document { (objects : ObjectMap) (keyring : Contents) (rid : Rid) (tip : Oid) (a b : Doc)
-        → HasIdentity objects keyring rid tip a → HasIdentity objects keyring rid tip b
-        → a ≡ b }
+    ensures chain { (objects : ObjectMap) (keyring : Contents) (rid : Rid) (tip : Oid)
+        (a b : List Oid) → IsIdentityChain objects keyring rid tip a
+        → IsIdentityChain objects keyring rid tip b → a ≡ b }
+    ensures document { (objects : ObjectMap) (keyring : Contents) (rid : Rid) (tip : Oid)
+        (a b : Doc) → HasIdentity objects keyring rid tip a
+        → HasIdentity objects keyring rid tip b → a ≡ b }
 {}
 
 /// A tip that has an identity is refused only where an object could not be had.
 pub fn an_identity_is_not_refused()
-    ensures { (objects : ObjectMap) (keyring : Contents) (rid : Rid) (tip : Oid) (doc : Doc) (fault : IdFault)
-        → HasIdentity objects keyring rid tip doc → IsIdFault objects keyring rid tip fault
-        → IsGet fault }
+    ensures { (objects : ObjectMap) (keyring : Contents) (rid : Rid) (tip : Oid)
+        (doc : Doc) (fault : IdFault) → HasIdentity objects keyring rid tip doc
+        → IsIdFault objects keyring rid tip fault → IsGet fault }
 {}

@@ -2,7 +2,8 @@
 ghost use Rattle.std.specs.Prelude.{◌≡◌, ◌≢◌, codes, IfOk, IfErr, None, Some, Ok, Err, map};
 ghost use Rattle.serde_json.specs.Find.{get};
 ghost use Rattle.serde_json.specs.View.{view};
-ghost use Rattle.identity_doc.specs.Documents.{all_of, allowed, key_in, said_visibility, visibility_of};
+ghost use Rattle.identity_doc.specs.Documents.{all_of, allowed, key_in};
+ghost use Rattle.identity_doc.specs.Documents.{said_visibility, visibility_of};
 ghost use Rattle.identity_doc.specs.declared.fault.DocFault.TheVariants.{BadVisibility, NoMemory};
 
 use crate::fault::DocFault;
@@ -79,7 +80,8 @@ pub(crate) fn visibility_of(
     keyring: &Keyring,
     value: &Value,
 ) -> Result<Visibility, DocFault>
-    ensures read { IfOk result (λ visibility. visibility_of keyring.now (view value.now) ≡ Ok visibility) }
+    ensures read { IfOk result (λ visibility.
+        visibility_of keyring.now (view value.now) ≡ Ok visibility) }
     ensures refused { IfErr result (λ fault.
         fault ≢ NoMemory → visibility_of keyring.now (view value.now) ≡ Err fault) }
 {

@@ -89,9 +89,9 @@ fn named(names: &[Oid], letter: u8) -> Oid {
     names.get(number).copied().unwrap_or(Oid([0; 20]))
 }
 
-/// The content that a template stands for: `&` and a letter stand for the digits of a key, `%` and a
-/// letter for the bytes of a name, `#` and a letter for its digits, `~` for who made a commit, `^`
-/// for the start of a delegate's text, and `@` for that of a payload.
+/// The content that a template stands for: `&` and a letter stand for the digits of a key, `%` and
+/// a letter for the bytes of a name, `#` and a letter for its digits, `~` for who made a commit,
+/// `^` for the start of a delegate's text, and `@` for that of a payload.
 pub(crate) fn content(alloc: Global, text: &[u8], names: &[Oid]) -> Result<Vec<u8>, NoMemory> {
     let mut bytes = Vec::new(alloc);
     let mut mark = 0;
