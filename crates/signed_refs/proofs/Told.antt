@@ -1,4 +1,4 @@
--- What the steps of `signed` tell of the objects.
+-- What the parts of `signed` tell of the objects.
 use Rattle.std.proofs.Common.{◌≡◌, ℕ, ◌≤◌, Bool, List, Option, None, Some, Result, Ok, Err, refl, sym, ap, subst, ◌∙◌}
 use Rattle.std.specs.Prelude.{codes, Contains, IfErr, IfNone, IfOk, IfSome, IsTrue, OnOk, ◌↔◌}
 use Rattle.rad_base.specs.declared.names.Nid.{Nid}
@@ -7,6 +7,7 @@ use Rattle.rad_base.specs.declared.names.Rid.{Rid}
 use Rattle.rad_base.specs.declared.names.Sig.{Sig}
 use Rattle.rad_base.specs.Sizes.{IsSig}
 use Rattle.git_object.specs.declared.kind.Kind.TheVariants as kinds
+use Rattle.git_object.proofs.ReadBack.{some_is}
 use Rattle.commit_graph.specs.Objects.{ObjectMap}
 use Rattle.commit_graph.proofs.Causes.{cause_later}
 use Rattle.keyring.specs.Contents.{Contents, accepts}
@@ -172,9 +173,6 @@ sig_cause_later content later before mid now (Get why) e le h = cause_later cont
 -- nothing is something
 pub no_some : {X : Type 0} (r : Option X) (x : X) → r ≡ None → r ≡ Some x → ⊥
 no_some r x none some = let both : None ≡ Some x = sym none ∙ some in cc both
-
-some_is : {X : Type 0} (a b : X) → Some a ≡ Some b → a ≡ b
-some_is a b e = cc e
 
 -- the root that was looked up is the only one
 pub root_kept : (objects : ObjectMap) (rid : Rid) (refs : List Line) (r : Option Oid) (root : Oid) (b : Bool)
