@@ -1,10 +1,10 @@
 -- What the table says of candidates is what histories say, and the head that follows.
-use Rattle.std.proofs.Common.{◌≡◌, ℕ, ◌≤◌, Bool, true, false, not, ◌&&◌, ◌||◌, List, [], ◌∷◌, ◌↔◌, Option, Some, None, Result, Ok, Err, refl, sym, ap, subst, inl, inr, ◌⊎◌, ⊎_elim, ◌∙◌, nat_le, arith}
-use Rattle.std.specs.Prelude.{Contains, filter, IsTrue, IfOk}
+use Rattle.std.proofs.Common.{◌≡◌, ℕ, Bool, true, false, not, ◌&&◌, List, [], ◌∷◌, ◌↔◌, Some, None, Result, Ok, Err, refl, sym, subst, inl, inr, ◌⊎◌, ⊎_elim, nat_le, arith}
+use Rattle.std.specs.Prelude.{Contains, filter, IfOk}
 use Rattle.std.specs.List.{list_any, list_all}
-use Rattle.std.proofs.lemmas.Bool.{false≢true, cases_Bool, and_parts, leb-true, le-leb}
+use Rattle.std.proofs.lemmas.Bool.{false≢true, and_parts, leb-true, le-leb, or_cases, or_left, or_right}
 use Rattle.rad_base.specs.declared.names.Oid.{Oid}
-use Rattle.commit_graph.proofs.Members.{contains_nothing, contains_head, contains_tail, contains_cases, filter_has, filter_from}
+use Rattle.rad_base.proofs.Members.{contains_nothing, contains_head, contains_tail, contains_cases, filter_has, filter_from}
 use Rattle.commit_graph.specs.Objects.{ObjectMap}
 use Rattle.commit_graph.specs.Histories.{InHistory}
 use Rattle.commit_graph.specs.Closures.{IsLeast, HasNone}
@@ -16,7 +16,7 @@ use Rattle.canonical_head.specs.Heads.{HasVotes, IsCandidate, IsTop, IsBeside, I
 use Rattle.canonical_head.specs.Least.{IsLeastIn, IsLeastOf}
 use Rattle.canonical_head.specs.Tables.{IsTable, tells, votes_in, candidates_in, is_top, is_beside, has_rival}
 use Rattle.canonical_head.specs.Divergence.{IsDivergence}
-use Rattle.canonical_head.proofs.Comparing.{above_or_beside, HasAbove, HasBeside}
+use Rattle.canonical_head.proofs.Comparing.{above_or_beside}
 use Rattle.canonical_head.proofs.Counts.{counts_by, counts_same}
 
 all_pass : {X : Type 0} (p : X → Bool) (xs : List X) → list_all p xs ≡ true → (x : X) → Contains xs x → p x ≡ true
@@ -33,20 +33,6 @@ both_true false b e f = cc e
 pass_all : {X : Type 0} (p : X → Bool) (xs : List X) → ((x : X) → Contains xs x → p x ≡ true) → list_all p xs ≡ true
 pass_all p [] h = refl
 pass_all p (y ∷ ys) h = both_true (p y) (list_all p ys) (h y (contains_head y ys)) (pass_all p ys (λ x c. h x (contains_tail y ys x c)))
-
-or_cases : (a b : Bool) → (a || b) ≡ true → (a ≡ true) ⊎ (b ≡ true)
-or_cases true b h = inl refl
-or_cases false true h = inr refl
-or_cases false false h = cc h
-
-or_left : (a b : Bool) → a ≡ true → (a || b) ≡ true
-or_left true b h = refl
-or_left false b h = cc h
-
-or_right : (a b : Bool) → b ≡ true → (a || b) ≡ true
-or_right true b h = refl
-or_right false true h = refl
-or_right false false h = cc h
 
 any_passes : {X : Type 0} (p : X → Bool) (xs : List X) → list_any p xs ≡ true → (x : X) × Contains xs x × (p x ≡ true)
 any_passes p [] h = cc h

@@ -1,7 +1,7 @@
 -- Of items that a relation compares, one is above all, or two are beside each other.
 use Rattle.std.proofs.Common.{List, [], ◌∷◌, inl, inr, ◌⊎◌, ⊎_elim, subst}
 use Rattle.std.specs.Prelude.{Contains}
-use Rattle.commit_graph.proofs.Members.{contains_nothing, contains_head, contains_tail, contains_cases}
+use Rattle.rad_base.proofs.Members.{contains_nothing, contains_head, contains_tail, contains_cases}
 
 -- an item of the list that is above each of them
 pub record HasAbove {X : Type 0} (R : X → X → Type 0) (xs : List X) : Type 0 where

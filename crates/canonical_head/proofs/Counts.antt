@@ -3,7 +3,7 @@ use Rattle.std.proofs.Common.{◌≡◌, ℕ, ◌+◌, Bool, true, false, cond, 
 use Rattle.std.specs.Prelude.{Contains, count_by}
 use Rattle.std.proofs.lemmas.Bool.{false≢true}
 use Rattle.std.proofs.lemmas.List.Sums.{sum_by-cons}
-use Rattle.commit_graph.proofs.Members.{contains_head, contains_tail}
+use Rattle.rad_base.proofs.Members.{contains_head, contains_tail}
 use Rattle.canonical_head.specs.Heads.{Counts}
 
 -- a count is determined

@@ -1,5 +1,5 @@
 -- The least name of a list that grows at its end.
-use Rattle.std.proofs.Common.{◌≡◌, ℕ, ◌+◌, ◌<◌, List, [], ◌∷◌, ◌++◌, length, take, get_or, Option, Some, None, sym, subst, inl, inr, ◌⊎◌, ⊎_elim}
+use Rattle.std.proofs.Common.{◌≡◌, ℕ, ◌+◌, ◌<◌, List, [], ◌∷◌, ◌++◌, length, take, get_or, Option, Some, None, sym, subst, inl, inr, ⊎_elim}
 use Rattle.std.specs.Prelude.{Contains}
 use Rattle.std.specs.declared.cmp.Ordering.TheVariants.{Less}
 use Rattle.std.proofs.lemmas.List.{take_more}
@@ -7,7 +7,7 @@ use Rattle.std.proofs.lemmas.List.Elements.{Contains-append_left, Contains-push,
 use Rattle.rad_base.specs.declared.names.Oid.{Oid}
 use Rattle.rad_base.specs.Order.{oid_cmp}
 use Rattle.rad_base.proofs.NameOrder.{oid_total}
-use Rattle.commit_graph.proofs.Members.{contains_nothing}
+use Rattle.rad_base.proofs.Members.{contains_nothing}
 use Rattle.commit_graph.specs.Looks.{IsLesser}
 use Rattle.commit_graph.proofs.LeastNames.{not_below_itself}
 use Rattle.canonical_head.specs.Least.{IsLeastOf, IsLeastIn}

@@ -1,5 +1,5 @@
 -- Rows and tables that grow.
-use Rattle.std.proofs.Common.{◌≡◌, ℕ, ◌+◌, ◌<◌, Bool, true, false, cond, List, [], ◌∷◌, ◌++◌, ◌↔◌, length, take, get_or, Option, Some, None, refl, sym, ap, subst, inl, inr, ◌⊎◌, ⊎_elim, ◌∙◌}
+use Rattle.std.proofs.Common.{◌≡◌, ℕ, ◌+◌, ◌<◌, Bool, true, cond, List, [], ◌∷◌, ◌++◌, ◌↔◌, length, take, get_or, Option, Some, None, refl, sym, ap, subst, inl, inr, ◌⊎◌, ⊎_elim, ◌∙◌}
 use Rattle.std.specs.Prelude.{Contains, IsTrue}
 use Rattle.std.specs.Option.{is_some, unwrap_or}
 use Rattle.std.specs.BTreeMap.{BTreeMap, get, is_at}
@@ -7,18 +7,18 @@ use Rattle.std.specs.BTreeSet.{BTreeSet, contains}
 use Rattle.std.specs.List.{list_any}
 use Rattle.std.specs.Map.{lookup}
 use Rattle.std.proofs.lemmas.Cmp.{eq_by_cmp_equiv}
-use Rattle.std.proofs.lemmas.Bool.{cases_Bool, false≢true}
+use Rattle.std.proofs.lemmas.Bool.{cases_Bool}
 use Rattle.std.proofs.lemmas.List.{take_more}
-use Rattle.std.proofs.lemmas.List.Elements.{Contains-push, Contains-append_left, Contains-push_cases}
+use Rattle.std.proofs.lemmas.List.Elements.{Contains-push_cases}
 use Rattle.std.proofs.lemmas.Map.Views.{tells_apart}
 use Rattle.rad_base.specs.declared.names.Oid.{Oid}
 use Rattle.rad_base.specs.Order.{oid_cmp}
 use Rattle.rad_base.proofs.NameOrder.{oid_total, oid_exact}
-use Rattle.commit_graph.proofs.Members.{contains_nothing}
+use Rattle.rad_base.proofs.Members.{contains_nothing}
 use Rattle.commit_graph.specs.Objects.{ObjectMap}
 use Rattle.commit_graph.specs.Histories.{InHistory}
 use Rattle.canonical_head.specs.declared.table.Table.{Table}
-use Rattle.canonical_head.specs.Tables.{IsRow, IsTableOf, AreRows, tells, in_set}
+use Rattle.canonical_head.specs.Tables.{IsRow, IsTableOf, AreRows, in_set}
 
 -- the set has just those names of the list that a test passes
 pub record IsKept (P : Oid → Type 0) (names : List Oid) (set : BTreeSet Oid) : Type 0 where

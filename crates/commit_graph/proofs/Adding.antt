@@ -4,7 +4,7 @@ use Rattle.std.specs.Prelude.{Contains, slice_get, map, filter}
 use Rattle.std.proofs.lemmas.List.{take_more, take-append-le}
 use Rattle.std.proofs.lemmas.List.Elements.{Contains-append_left, Contains-append_right, Contains-push, Contains-push_cases, Contains-append_cases, filter-append}
 use Rattle.std.proofs.lemmas.Option.{slice_get_within, get_or_from_slice_get}
-use Rattle.commit_graph.proofs.Members.{contains_nothing}
+use Rattle.rad_base.proofs.Members.{contains_nothing}
 use Rattle.git_object.specs.declared.link.LinkTo.{LinkTo}
 use Rattle.commit_graph.specs.declared.root.Root.{Root}
 use Rattle.commit_graph.specs.Lists.{Adds, Extends}

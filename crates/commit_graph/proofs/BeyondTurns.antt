@@ -20,7 +20,7 @@ use Rattle.commit_graph.specs.Pairs.{Accepts, IsMissing, IsFit, IsUnfit, pair_of
 use Rattle.commit_graph.specs.Looks.{HasLinks}
 use Rattle.commit_graph.specs.Beyond.{IsClosedName, AllClosed, IsLinkBeyond, links_in}
 use Rattle.commit_graph.specs.Facts.{IsFormed, IsAccepted, IsFitWith, IsTaken, ShowsFact, IsMet, IsMetKnown, fact_in, waiting_in, items_of}
-use Rattle.commit_graph.proofs.Members.{contains_at, contains_head, contains_nothing}
+use Rattle.rad_base.proofs.Members.{contains_at, contains_head, contains_nothing}
 use Rattle.commit_graph.proofs.Adding.{extends_by, extends_there, take_grown}
 use Rattle.commit_graph.proofs.Walked.{reached_root}
 use Rattle.commit_graph.proofs.Spread.{Spread, spread_follows}

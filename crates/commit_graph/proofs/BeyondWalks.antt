@@ -14,7 +14,7 @@ use Rattle.commit_graph.specs.Pairs.{Accepts, IsFit, IsLink}
 use Rattle.commit_graph.specs.Walks.{Reached}
 use Rattle.commit_graph.specs.Closures.{IsReached, IsHeld, IsClosed, HasName}
 use Rattle.commit_graph.specs.Beyond.{IsKnown, IsClosedName, AllClosed, IsLinkBeyond, IsReachedBeyond, CoversBeyond, CoversFitBeyond, GrowsBeyond, link_count}
-use Rattle.commit_graph.proofs.Members.{contains_at, contains_head, contains_one}
+use Rattle.rad_base.proofs.Members.{contains_at, contains_head, contains_one}
 use Rattle.commit_graph.proofs.Walked.{reached_root, reached_step, reached_stays, reached_along}
 use Rattle.commit_graph.proofs.Spread.{Spread, spread_end}
 use Rattle.commit_graph.proofs.PairSteps.{one_object}

@@ -1,14 +1,14 @@
 -- The line of commits from a tip, and the chain that it is from its end.
-use Rattle.std.proofs.Common.{◌≡◌, List, [], ◌∷◌, ◌++◌, ◌≤◌, ◌<◌, refl, sym, ap, subst, inl, inr, ⊎_elim, ◌∙◌, reverse, length, slice_index_or, arith}
+use Rattle.std.proofs.Common.{◌≡◌, List, [], ◌∷◌, ◌++◌, ◌≤◌, ◌<◌, refl, sym, ap, subst, inl, inr, ◌∙◌, reverse, length, slice_index_or, arith}
 use Rattle.std.specs.Prelude.{Contains, map, filter, Some, None, ◌⊎◌}
 use Rattle.std.proofs.lemmas.List.{map-append, reverse-append}
-use Rattle.std.proofs.lemmas.List.Elements.{Contains-push_cases}
 use Rattle.git_object.specs.declared.kind.Kind.{Kind}
 use Rattle.git_object.specs.declared.kind.Kind.TheVariants.{Commit}
 use Rattle.git_object.specs.declared.link.LinkTo.{LinkTo}
 use Rattle.git_object.specs.Links.{links, IsWellFormed}
 use Rattle.rad_base.specs.declared.names.Oid.{Oid}
-use Rattle.commit_graph.proofs.Members.{contains_nothing, contains_head, contains_tail, map_has, map_from, filter_from}
+use Rattle.rad_base.proofs.EachItem.{differ_more}
+use Rattle.rad_base.proofs.Members.{contains_head, map_has, map_from, filter_from}
 use Rattle.commit_graph.specs.declared.root.Root.{Root}
 use Rattle.commit_graph.specs.declared.look.Looked.{Looked}
 use Rattle.commit_graph.specs.declared.look.Looked.TheVariants as looked
@@ -18,7 +18,8 @@ use Rattle.commit_graph.specs.Pairs.{IsLink, IsFit, as_commit, pair_of, oid_of, 
 use Rattle.commit_graph.specs.Lists.{Adds}
 use Rattle.commit_graph.specs.Walks.{Walk}
 use Rattle.commit_graph.specs.Closures.{IsClosed, IsReached}
-use Rattle.commit_graph.specs.Chains.{HasParents, IsOnlyParent, IsChain, IsLine, IsReturn, NoRepeat, parents_in}
+use Rattle.rad_base.specs.Lists.{AllDiffer}
+use Rattle.commit_graph.specs.Chains.{HasParents, IsOnlyParent, IsChain, IsLine, IsReturn, parents_in}
 use Rattle.commit_graph.proofs.PairSteps.{commit_kind, one_object, unfit_apart}
 use Rattle.commit_graph.proofs.Walked.{walk_push, reached_root, reached_step}
 
@@ -27,15 +28,6 @@ pub line_more : (m : ObjectMap) (from : Oid) (commits : List Oid) (oid next : Oi
     → IsLine m from commits oid → IsOnlyParent m next oid → IsLine m from (commits ++ oid ∷ []) next
 line_more m from [] oid next e h = (e, (next, h, refl))
 line_more m from (c ∷ cs) oid next l h = (l.0, (l.1.0, l.1.1, line_more m l.1.0 cs oid next l.1.2 h))
-
--- a list without repeats, with one item more that it lacks
-pub repeats_none : {X : Type 0} (xs : List X) (x : X) → NoRepeat xs → (Contains xs x → ⊥)
-    → NoRepeat (xs ++ x ∷ [])
-repeats_none [] x once lacks = (contains_nothing x, tt)
-repeats_none {X} (y ∷ ys) x once lacks = (
-  λ h. ⊎_elim once.0 (λ e. lacks (subst (λ (z : X). Contains (y ∷ ys) z) (sym e) (contains_head y ys))) (Contains-push_cases ys x y h),
-  repeats_none ys x once.1 (λ h. lacks (contains_tail y ys x h)),
-)
 
 -- a line read from its end is a walk over children
 pub line_back : (m : ObjectMap) (from : Oid) (commits : List Oid) (root : Oid)
@@ -77,7 +69,7 @@ pub record Line (m : ObjectMap) (tip : Oid) (pairs : List Root) (oid : Oid) : Ty
   pub commits : List Oid
   pub are : pairs ≡ map as_commit commits
   pub walked : IsLine m tip commits oid
-  pub once : NoRepeat commits
+  pub once : AllDiffer commits
 
 -- at the start
 pub line_start : (m : ObjectMap) (tip : Oid) → Line m tip [] tip
@@ -91,7 +83,7 @@ line_turn {m} {tip} {oid} {next} {pairs} h lacks e only = record {
   commits = h.commits ++ oid ∷ [];
   are = e ∙ ap (λ (xs : List Root). xs ++ as_commit oid ∷ []) h.are ∙ sym (map-append as_commit h.commits (oid ∷ []));
   walked = line_more m tip h.commits oid next h.walked only;
-  once = repeats_none h.commits oid h.once
+  once = differ_more h.commits oid h.once
       (λ c. lacks (subst (λ (xs : List Root). Contains xs (as_commit oid)) (sym h.are) (map_has as_commit h.commits oid c)));
 }
 

@@ -5,7 +5,7 @@ use Rattle.std.proofs.lemmas.List.{take_more}
 use Rattle.std.proofs.lemmas.List.Elements.{Contains-push_cases}
 use Rattle.git_object.specs.declared.link.LinkTo.{LinkTo}
 use Rattle.rad_base.specs.declared.names.Oid.{Oid}
-use Rattle.commit_graph.proofs.Members.{contains_nothing}
+use Rattle.rad_base.proofs.Members.{contains_nothing}
 use Rattle.commit_graph.specs.declared.root.Root.{Root}
 use Rattle.commit_graph.specs.declared.look.Looked.{Looked}
 use Rattle.commit_graph.specs.declared.look.Looked.TheVariants as looked

@@ -18,10 +18,11 @@ use Rattle.commit_graph.specs.declared.facts.Fact.TheVariants.{Missing, Malforme
 use Rattle.commit_graph.specs.declared.facts.Facts.{Facts}
 use Rattle.commit_graph.specs.Objects.{ObjectMap}
 use Rattle.commit_graph.specs.Pairs.{IsFit, pair_of}
-use Rattle.commit_graph.specs.Chains.{NoRepeat}
+use Rattle.rad_base.specs.Lists.{AllDiffer}
 use Rattle.commit_graph.specs.Beyond.{links_in, link_count}
 use Rattle.commit_graph.specs.Facts.{IsFact, IsLearned, IsLookedUp, fact_in, waiting_in, waiting_after}
-use Rattle.commit_graph.proofs.Members.{contains_cases}
+use Rattle.rad_base.proofs.EachItem.{others_from}
+use Rattle.rad_base.proofs.Members.{contains_cases}
 use Rattle.commit_graph.proofs.Repeats.{sum_by-cons}
 
 -- a pair of this name, which is not known, was met
@@ -48,8 +49,8 @@ pub record FactsHold (m : ObjectMap) (known : BTreeSet Oid) (roots queue : List 
   pub looked_known : (n : Oid) → Contains looked n → facts n ≡ None → ⊥
   pub opened_known : (n : Oid) → Contains opened n → facts n ≡ None → ⊥
   pub opened_taken : (n : Oid) → Contains opened n → waiting n ≡ None
-  pub looked_once : NoRepeat looked
-  pub opened_once : NoRepeat opened
+  pub looked_once : AllDiffer looked
+  pub opened_once : AllDiffer opened
   pub looked_met : (n : Oid) → Contains looked n → IsMetName queue known n
   pub opened_met : (n : Oid) → Contains opened n → IsOpenedName m queue known n
   pub lengths : length queue ≡ length roots + sum_by (link_count m) opened
@@ -152,7 +153,7 @@ module _ {m : ObjectMap} {known : BTreeSet Oid} {roots queue : List Root} {old m
               (contains_cases n looked q c);
           opened_known = λ q c e. let ne = fresh q (h.opened_known q c) in h.opened_known q c (sym (facts_other q ne) ∙ e);
           opened_taken = λ q c. waits_else q (fresh q (h.opened_known q c)) ∙ h.opened_taken q c;
-          looked_once = (λ c. h.looked_known n c s.unknown, h.looked_once);
+          looked_once = (others_from n looked (λ c. h.looked_known n c s.unknown), h.looked_once);
           opened_once = h.opened_once;
           looked_met = λ q c. ⊎_elim (λ a. subst (IsMetName queue known) a met) (λ a. h.looked_met q a) (contains_cases n looked q c);
           opened_met = h.opened_met;
@@ -208,7 +209,7 @@ links_open {m} {known} {roots} {queue} {queue'} {ls} {facts} {facts'} {waiting} 
           (λ b. subst (λ (k : Oid). waiting' k ≡ None) b now)
           (λ b. ⊎_elim (λ d. subst (λ (k : Oid). waiting' k ≡ None) d now) (λ d. else' q d ∙ h.opened_taken q b) (one_or_two n q)) (contains_cases n opened q c);
       looked_once = h.looked_once;
-      opened_once = (λ c. some_none s (h.opened_taken n c), h.opened_once);
+      opened_once = (others_from n opened (λ c. some_none s (h.opened_taken n c)), h.opened_once);
       looked_met = λ q c. met q (h.looked_met q c);
       opened_met = λ q c. ⊎_elim (λ b. subst (IsOpenedName m queue' known) b (opens n here)) (λ b. opens q (h.opened_met q b)) (contains_cases n opened q c);
       lengths = omega (arith, h.lengths, ap length e, length-append queue (map pair_of ls), length_map pair_of ls, ap length (h.true_waiting n ls s), sum_by-cons (link_count m) n opened);

@@ -4,7 +4,7 @@ use Rattle.std.specs.Prelude.{Contains}
 use Rattle.git_object.specs.declared.kind.Kind.{Kind}
 use Rattle.git_object.specs.declared.kind.Kind.TheVariants.{Commit}
 use Rattle.rad_base.specs.declared.names.Oid.{Oid}
-use Rattle.commit_graph.proofs.Members.{contains_one, contains_head}
+use Rattle.rad_base.proofs.Members.{contains_one, contains_head}
 use Rattle.commit_graph.specs.declared.root.Root.{Root}
 use Rattle.commit_graph.specs.Objects.{ObjectMap}
 use Rattle.commit_graph.specs.Pairs.{as_commit}

@@ -9,12 +9,10 @@ pub mod HistoryWalks
 pub mod Learned
 pub mod LeastNames
 pub mod Marks
-pub mod Members
 pub mod NameSets
 pub mod Named
 pub mod PairOrder
 pub mod PairSteps
-pub mod Prefixes
 pub mod Repeats
 pub mod Spread
 pub mod Walked

@@ -12,7 +12,7 @@ use Rattle.std.proofs.lemmas.Map.Views.{tells_apart, btree_set_contains_iff}
 use Rattle.rad_base.specs.declared.names.Oid.{Oid}
 use Rattle.rad_base.specs.Order.{oid_cmp}
 use Rattle.rad_base.proofs.NameOrder.{oid_total, oid_exact}
-use Rattle.commit_graph.proofs.Members.{contains_nothing}
+use Rattle.rad_base.proofs.Members.{contains_nothing}
 use Rattle.commit_graph.specs.declared.root.Root.{Root}
 use Rattle.commit_graph.specs.Objects.{ObjectMap}
 use Rattle.commit_graph.specs.Closures.{HasName, IsReached, IsReachedName}

@@ -3,11 +3,9 @@ use Rattle.std.proofs.Common.{◌≡◌, Bool, true, false, Option, Some, None, 
 use Rattle.std.specs.Option.{is_some, unwrap_or}
 use Rattle.std.specs.Ordering.{is_eq}
 use Rattle.std.specs.BTreeMap.{BTreeMap, Updates, get}
-use Rattle.std.specs.declared.cmp.Ordering.{Ordering}
-use Rattle.std.specs.declared.cmp.Ordering.TheVariants.{Less, Equal, Greater}
 use Rattle.rad_base.specs.declared.names.Oid.{Oid}
 use Rattle.rad_base.specs.Order.{oid_cmp}
-use Rattle.rad_base.proofs.NameOrder.{apart, oid_exact}
+use Rattle.rad_base.proofs.NameOrder.{equal_from_is_eq, apart, oid_exact}
 use Rattle.git_object.specs.Names.{name}
 use Rattle.commit_graph.specs.declared.held.Held.{Held}
 use Rattle.commit_graph.specs.Objects.{Object, IsNamed}
@@ -16,11 +14,6 @@ use Rattle.commit_graph.specs.Memory.{content_of, object_of, kept_or, AddsObject
 none_held : (held : Option Held) → is_some held ≡ false → held ≡ None
 none_held None e = refl
 none_held (Some held) e = cc e
-
-is_equal : (o : Ordering) → is_eq o ≡ true → o ≡ Equal
-is_equal Less e = cc e
-is_equal Equal e = refl
-is_equal Greater e = cc e
 
 module _ (old new : BTreeMap Oid Held) (oid : Oid) (held : Held) (u : Updates oid_cmp old new oid (Some held)) where
   -- a new object is under its name, and the others stay
@@ -36,7 +29,7 @@ module _ (old new : BTreeMap Oid Held) (oid : Oid) (held : Held) (u : Updates oi
       → IsNamed (content_of old) → name held.kind held.bytes.items ≡ oid
       → content_of new q ≡ Some object → name object.0 object.1 ≡ q
   named_at true q object at h n there =
-      let e : oid ≡ q = oid_exact oid q (is_equal _ at) in
+      let e : oid ≡ q = oid_exact oid q (equal_from_is_eq _ at) in
       let same : (held.kind, held.bytes.items) ≡ object =
       ap (λ (o : Option Object). unwrap_or o object) (sym (ap object_of u.1) ∙ subst (λ (x : Oid). content_of new x ≡ Some object) (sym e) there) in
       sym (ap (λ (o : Object). name o.0 o.1) same) ∙ n ∙ e

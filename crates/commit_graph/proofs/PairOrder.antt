@@ -2,7 +2,6 @@
 use Rattle.std.proofs.Common.{◌≡◌, ℕ, Option, Some, None, suc, zero, refl, sym, ap, ◌∙◌}
 use Rattle.std.specs.Cmp.{IsTotalOrder, nat_cmp_total}
 use Rattle.std.specs.declared.cmp.Ordering.{Ordering}
-use Rattle.std.specs.declared.cmp.Ordering.TheVariants.{Less, Equal, Greater}
 use Rattle.std.specs.Ordering.{nat_cmp, ordering_then, then_cmp, on}
 use Rattle.std.proofs.lemmas.Cmp.{on_total, then_total}
 use Rattle.std.proofs.lemmas.Map.Lookups.{CmpEqualImpliesEq, exact_unsigned}
@@ -11,7 +10,7 @@ use Rattle.git_object.specs.declared.kind.Kind.TheVariants.{Blob, Tree, Commit, 
 use Rattle.rad_base.specs.declared.names.Oid.{Oid}
 use Rattle.commit_graph.specs.declared.root.Root.{Root}
 use Rattle.rad_base.specs.Order.{oid_cmp}
-use Rattle.rad_base.proofs.NameOrder.{oid_total, oid_exact}
+use Rattle.rad_base.proofs.NameOrder.{both_equal, oid_total, oid_exact}
 use Rattle.commit_graph.specs.contracts.root.RootOrd.TheImpl.{cmp-value}
 
 -- the kinds in their order
@@ -85,14 +84,9 @@ pair_total =
       congr = λ x y z h. as_coded x z ∙ o.congr x y z (sym (as_coded x y) ∙ h) ∙ sym (as_coded y z);
     }
 
-then_equal : (a b : Ordering) → ordering_then a b ≡ Equal → (a ≡ Equal) × (b ≡ Equal)
-then_equal Less b h = (cc, cc)
-then_equal Equal b h = (refl, h)
-then_equal Greater b h = (cc, cc)
-
 pub pair_exact : CmpEqualImpliesEq pair_cmp
 pair_exact a b h =
-    let e = then_equal (oid_cmp a.oid b.oid) (nat_cmp (code a.kind) (code b.kind)) (sym (as_coded a b) ∙ h) in
+    let e = both_equal (oid_cmp a.oid b.oid) (nat_cmp (code a.kind) (code b.kind)) (sym (as_coded a b) ∙ h) in
     let n : a.oid ≡ b.oid = oid_exact a.oid b.oid e.0 in
     let k : a.kind ≡ b.kind = sym (back a.kind) ∙ ap kind_of_code (exact_unsigned (code a.kind) (code b.kind) e.1) ∙ back b.kind in
     ap (λ (o : Oid). make o a.kind) n ∙ ap (λ (x : Option Kind). make b.oid x) k

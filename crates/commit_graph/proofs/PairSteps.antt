@@ -15,7 +15,7 @@ use Rattle.commit_graph.specs.Pairs.{Accepts, IsMissing, IsFit, IsUnfit, IsLink,
 use Rattle.commit_graph.specs.Lists.{Extends, Follows}
 use Rattle.commit_graph.specs.Histories.{IsParent}
 use Rattle.commit_graph.specs.Looks.{HasLinks, Reads, Shows}
-use Rattle.commit_graph.proofs.Members.{contains_nothing, filter_has, filter_from, map_has, map_from}
+use Rattle.rad_base.proofs.Members.{contains_nothing, filter_has, filter_from, map_has, map_from}
 use Rattle.commit_graph.proofs.Adding.{extends_same}
 
 -- a name has one object

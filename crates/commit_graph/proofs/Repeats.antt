@@ -3,8 +3,9 @@ use Rattle.std.proofs.Common.{◌≡◌, ℕ, ◌+◌, ◌≤◌, List, [], ◌�
 use Rattle.std.specs.Prelude.{Contains}
 use Rattle.std.proofs.lemmas.List.Sums.{sum_by-append}
 use Rattle.std.proofs.lemmas.List.Elements.{Contains-append_left, Contains-append_right, Contains-append_cases}
-use Rattle.commit_graph.specs.Chains.{NoRepeat}
-use Rattle.commit_graph.proofs.Members.{contains_nothing, contains_head, contains_tail, contains_cases}
+use Rattle.rad_base.specs.Lists.{AllDiffer}
+use Rattle.rad_base.proofs.EachItem.{lacks_other}
+use Rattle.rad_base.proofs.Members.{contains_nothing, contains_head, contains_tail, contains_cases}
 
 -- the list round one of its items
 record IsSplit {X : Type 0} (ys : List X) (x : X) : Type 0 where
@@ -33,14 +34,14 @@ pub sum_by-cons : {X : Type 0} (f : X → ℕ) (x : X) (xs : List X)
 sum_by-cons f x xs = sum_by-append f (x ∷ []) xs ∙ ap (λ (n : ℕ). n + sum_by f xs) (zero-add (f x))
 
 -- a sum over a list without repeats is at most that over a list with each of its items
-pub sum_by-le : {X : Type 0} (f : X → ℕ) (xs ys : List X) → NoRepeat xs
+pub sum_by-le : {X : Type 0} (f : X → ℕ) (xs ys : List X) → AllDiffer xs
     → ((x : X) → Contains xs x → Contains ys x) → sum_by f xs ≤ sum_by f ys
 sum_by-le f [] ys once has = omega arith
 sum_by-le {X} f (x ∷ xs) ys once has =
     let s = split_at ys x (has x (contains_head x xs)) in
     let rest : sum_by f xs ≤ sum_by f (s.before ++ s.after) =
     sum_by-le f xs (s.before ++ s.after) once.1
-    (λ y h. left_out s.before s.after x y (λ e. once.0 (subst (Contains xs) e h))
+    (λ y h. left_out s.before s.after x y (λ e. lacks_other x xs once.0 (subst (Contains xs) e h))
     (subst (λ (zs : List X). Contains zs y) s.is (has y (contains_tail x xs y h)))) in
     let whole : sum_by f ys ≡ sum_by f s.before + (f x + sum_by f s.after) = ap (sum_by f) s.is ∙ sum_by-append f s.before (x ∷ s.after) ∙ ap (λ (n : ℕ). sum_by f s.before + n) (sum_by-cons f x s.after) in
     omega (arith, rest, whole, sum_by-append f s.before s.after, sum_by-cons f x xs)

@@ -2,7 +2,7 @@
 use Rattle.std.proofs.Common.{◌≡◌, ℕ, ◌+◌, take, Some, List, [], ◌∷◌, ◌++◌, ◌↔◌, sym, subst, ⊎_elim}
 use Rattle.std.specs.Prelude.{Contains, slice_get}
 use Rattle.std.proofs.lemmas.List.Elements.{Contains-push_cases}
-use Rattle.commit_graph.proofs.Members.{contains_nothing, contains_at}
+use Rattle.rad_base.proofs.Members.{contains_nothing, contains_at}
 use Rattle.commit_graph.specs.Lists.{Extends, Follows}
 use Rattle.commit_graph.specs.Walks.{Reached}
 use Rattle.commit_graph.proofs.Adding.{extends_cases, extends_kept, take_grown}

@@ -1,5 +1,6 @@
 -- Commits that have one parent each.
 use Rattle.std.specs.Prelude.{◌≡◌, ℕ, ◌≤◌, List, [], ◌∷◌, length, map, filter, Contains, Some, Option, Result, IfErr}
+use Rattle.rad_base.specs.Lists.{AllDiffer}
 use Rattle.rad_base.specs.declared.names.Oid.{Oid}
 use Rattle.git_object.specs.declared.kind.Kind.TheVariants.{Commit}
 use Rattle.git_object.specs.declared.link.LinkTo.{LinkTo}
@@ -36,11 +37,6 @@ abbrev pub IsLine : ObjectMap → Oid → List Oid → Oid → Type 0
 IsLine objects from [] end = from ≡ end
 IsLine objects from (oid ∷ line) end = (from ≡ oid) × ((parent : Oid) × IsOnlyParent objects parent oid × IsLine objects parent line end)
 
--- no item stands in the list twice
-abbrev pub NoRepeat : {X : Type 0} → List X → Type 0
-NoRepeat [] = Unit {0}
-NoRepeat (x ∷ xs) = (Contains xs x → ⊥) × NoRepeat xs
-
 -- the first commit from the tip that has two parents or more
 pub record IsFork (objects : ObjectMap) (tip oid : Oid) : Type 0 where
   pub line : List Oid
@@ -54,7 +50,7 @@ pub record IsReturn (objects : ObjectMap) (tip oid : Oid) : Type 0 where
   pub line : List Oid
   pub walked : IsLine objects tip line oid
   pub among : Contains line oid
-  pub once : NoRepeat line
+  pub once : AllDiffer line
 
 -- each refusal by what the walk from the tip came to
 abbrev pub IsChainFault : ObjectMap → Oid → ChainFault → Type 0

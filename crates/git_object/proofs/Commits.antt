@@ -4,7 +4,8 @@ use Rattle.std.specs.Prelude.{codes}
 use Rattle.std.proofs.lemmas.List.{take-append-drop, take_at, drop_at}
 use Rattle.rad_base.specs.Sizes.{IsOid}
 use Rattle.rad_base.specs.declared.names.Oid.{Oid}
-use Rattle.git_object.specs.Grammar.{BeginsWith, Commit, IsCommit, SpellsCommit, oid_line, parents_text}
+use Rattle.rad_base.specs.Lists.{BeginsWith}
+use Rattle.git_object.specs.Grammar.{Commit, IsCommit, SpellsCommit, oid_line, parents_text}
 use Rattle.git_object.specs.Places.{BreaksCommit, HasNoLine, StandsBehindParents}
 use Rattle.git_object.specs.Reading.{commit_in, parents_in}
 use Rattle.git_object.proofs.ReadBack.{some_is}

@@ -6,12 +6,14 @@ use Rattle.std.specs.List.{AllByRecursion}
 use Rattle.std.proofs.lemmas.Bool.Decides.{Decides-eqb}
 use Rattle.std.proofs.lemmas.Slice.Eq.{slice_eq-Decides}
 use Rattle.std.proofs.lemmas.List.{append-nil, take-append-drop, take_at, drop_at}
+use Rattle.rad_base.proofs.EachItem.{each_more}
 use Rattle.hex.specs.Hex.{decode_sized, encode_lower, lower_digits}
 use Rattle.hex.specs.declared.error.FromHexError.{FromHexError}
 use Rattle.hex.proofs.HexLemmas.{decode_of-ok, decode_sized-encode_lower, decode_sized-ok, decode_sized-twice, length-encode_with}
 use Rattle.rad_base.specs.Sizes.{HasBytes, IsOid}
 use Rattle.rad_base.specs.declared.names.Oid.{Oid}
-use Rattle.git_object.specs.Grammar.{BeginsWith, oid_line, parents_text}
+use Rattle.rad_base.specs.Lists.{BeginsWith}
+use Rattle.git_object.specs.Grammar.{oid_line, parents_text}
 use Rattle.git_object.specs.Places.{HasNoLine, StandsBehindParents}
 use Rattle.git_object.specs.Reading.{behind, if_lower, line_front, oid_text_front, parents_in}
 use Rattle.git_object.proofs.Items.{Shrinks, items_first, items_none}
@@ -136,10 +138,6 @@ author_no_parent rest begins oid more is h =
     let first = sym begins.1 ∙ h ∙ line_text (codes "parent ") oid more in
     omega (arith, ap (λ (l : List ℕ). get_or l 0 0) first)
 
-each_more : (ps : List Oid) (p : Oid) → AllByRecursion IsOid ps → IsOid p → AllByRecursion IsOid (ps ++ p ∷ [])
-each_more [] p each is = (is, tt)
-each_more (q ∷ ps) p each is = (each.0, each_more ps p each.1 is)
-
 pub parents_text-append : (ps qs : List Oid) → parents_text (ps ++ qs) ≡ parents_text ps ++ parents_text qs
 parents_text-append [] qs = refl
 parents_text-append (p ∷ ps) qs =
@@ -162,7 +160,7 @@ parents_more bytes rest more p r is h =
     let line = oid_line (codes "parent ") p in
     record {
       parents = r.parents ++ p ∷ [];
-      each = each_more r.parents p r.each is;
+      each = each_more IsOid r.parents p r.each is;
       text =
           r.text ∙ ap (λ (l : List ℕ). parents_text r.parents ++ l) h
           ∙ sym (append_assoc (parents_text r.parents) line more)

@@ -4,7 +4,8 @@ use Rattle.std.specs.Prelude.{codes}
 use Rattle.std.proofs.lemmas.List.{take_at, drop_at}
 use Rattle.rad_base.specs.Sizes.{IsOid}
 use Rattle.rad_base.specs.declared.names.Oid.{Oid}
-use Rattle.git_object.specs.Grammar.{BeginsWith, IsTag, SpellsTag, oid_line, type_line}
+use Rattle.rad_base.specs.Lists.{BeginsWith}
+use Rattle.git_object.specs.Grammar.{IsTag, SpellsTag, oid_line, type_line}
 use Rattle.git_object.specs.Grammar.{Tag as TagValue}
 use Rattle.git_object.specs.Places.{BreaksTag, HasNoType}
 use Rattle.git_object.specs.Reading.{tag_in, type_front}

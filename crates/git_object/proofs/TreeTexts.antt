@@ -2,6 +2,7 @@
 use Rattle.std.proofs.Common.{Bool, true, false, ◌==◌, ◌≡◌, ℕ, ◌+◌, ◌-◌, ◌<◌, List, [], ◌∷◌, ◌++◌, length, take, drop, Option, None, Some, refl, sym, ap, subst, ◌∙◌, arith, append_assoc, length-append}
 use Rattle.std.proofs.lemmas.List.{append-nil, take-append-drop, length-drop, take_at, drop_at}
 use Rattle.std.specs.List.{AllByRecursion}
+use Rattle.rad_base.proofs.EachItem.{each_more}
 use Rattle.git_object.specs.Grammar.{Entry, IsBelow, IsEntry, IsRisingFrom, IsTree, SpellsEntries, SpellsTree, entry_text, key_of, tree_text}
 use Rattle.git_object.specs.Places.{BreaksTree, HasNoEntryAbove}
 use Rattle.git_object.specs.Reading.{entries_in}
@@ -44,11 +45,6 @@ pub record IsReadTo (bytes rest : List ℕ) (last : Option (List ℕ)) : Type 0 
   pub end : last_from None entries ≡ last
   pub text : bytes ≡ tree_text entries ++ rest
 
--- one more entry
-pub each_more : (es : List Entry) (e : Entry) → AllByRecursion IsEntry es → IsEntry e → AllByRecursion IsEntry (es ++ e ∷ [])
-each_more [] e each is = (is, tt)
-each_more (f ∷ es) e each is = (each.0, each_more es e each.1 is)
-
 -- one more entry, above those before it
 pub rising_more : (before : Option (List ℕ)) (es : List Entry) (e : Entry) → IsRisingFrom before es → IsBelow (last_from before es) (key_of e) → IsRisingFrom before (es ++ e ∷ [])
 rising_more before [] e rising below = (below, tt)
@@ -72,7 +68,7 @@ pub read_more : (bytes rest more : List ℕ) (last : Option (List ℕ)) (e : Ent
     → IsBelow last (key_of e) → IsReadTo bytes more (Some (key_of e))
 read_more bytes rest more last e r is h below = record {
   entries = r.entries ++ e ∷ [];
-  each = each_more r.entries e r.each is;
+  each = each_more IsEntry r.entries e r.each is;
   rising = rising_more None r.entries e r.rising (subst (λ (k : Option (List ℕ)). IsBelow k (key_of e)) (sym r.end) below);
   end = last_more None r.entries e;
   text =
@@ -137,7 +133,7 @@ pub tree_more : (es : List Entry) (front : List ℕ) (g : Entry) → SpellsTree 
 tree_more es front g s is below = (
   es ++ g ∷ [],
   record {
-    each = each_more es g s.each is;
+    each = each_more IsEntry es g s.each is;
     rising = rising_more None es g s.rising below;
     text =
         ap (λ (l : List ℕ). l ++ entry_text g) s.text

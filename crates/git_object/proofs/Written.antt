@@ -3,6 +3,7 @@ use Rattle.std.proofs.Common.{◌≡◌, ℕ, ◌+◌, ◌<◌, ◌≤◌, List,
 use Rattle.std.proofs.lemmas.List.{append-nil, get_or-map, take_all, take_more}
 use Rattle.std.specs.List.{AllByRecursion}
 use Rattle.std.specs.Prelude.{codes}
+use Rattle.rad_base.proofs.EachItem.{each_between, each_more}
 use Rattle.rad_base.specs.Sizes.{IsOid}
 use Rattle.rad_base.specs.declared.names.Oid.{Oid}
 use Rattle.git_object.specs.Faults.{IsFirstBad}
@@ -10,7 +11,7 @@ use Rattle.git_object.specs.Grammar.{Entry, IsBelow, IsEntry, IsName, IsRisingFr
 use Rattle.git_object.specs.Views.{entry_named}
 use Rattle.git_object.specs.declared.named_entry.NamedEntry.{NamedEntry}
 use Rattle.git_object.proofs.Lines.{parents_text-append}
-use Rattle.git_object.proofs.TreeTexts.{each_more, last_from, last_more, rising_more, tree_text-append}
+use Rattle.git_object.proofs.TreeTexts.{last_from, last_more, rising_more, tree_text-append}
 
 -- the first i entries are written, the last of them with this key
 pub record IsWrittenTo (entries : List Entry) (i : ℕ) (bytes : List ℕ) (last : Option (List ℕ)) : Type 0 where
@@ -29,7 +30,7 @@ written_more entries i bytes new last e w inside at is below h =
     let es = take i entries in
     let more : take (i + 1) entries ≡ es ++ e ∷ [] = take_more entries i e inside ∙ ap (λ (x : Entry). es ++ x ∷ []) at in
     let spelled : SpellsTree (es ++ e ∷ []) new = record {
-      each = each_more es e w.spelled.each is;
+      each = each_more IsEntry es e w.spelled.each is;
       rising = rising_more None es e w.spelled.rising (subst (λ (k : Option (List ℕ)). IsBelow k (key_of e)) (sym w.end) below);
       text =
           h ∙ ap (λ (l : List ℕ). l ++ entry_text e) w.spelled.text
@@ -39,10 +40,6 @@ written_more entries i bytes new last e w inside at is below h =
       spelled = subst (λ (l : List Entry). SpellsTree l new) (sym more) spelled;
       end = ap (last_from None) more ∙ last_more None es e;
     }
-
-each_last : (es : List Entry) (e : Entry) → AllByRecursion IsEntry (es ++ e ∷ []) → IsEntry e
-each_last [] e each = each.0
-each_last (f ∷ es) e each = each_last es e each.1
 
 rising_last : (before : Option (List ℕ)) (es : List Entry) (e : Entry) → IsRisingFrom before (es ++ e ∷ []) → IsBelow (last_from before es) (key_of e)
 rising_last before [] e rising = rising.0
@@ -60,7 +57,7 @@ first_bad entries i bytes last e w inside at bad =
       bad = λ s.
           let each = subst (λ (l : List Entry). AllByRecursion IsEntry l) more s.each in
           let rising = subst (λ (l : List Entry). IsRisingFrom None l) more s.rising in
-          bad (each_last es e each).name (subst (λ (k : Option (List ℕ)). IsBelow k (key_of e)) w.end (rising_last None es e rising));
+          bad (each_between IsEntry es e [] each).name (subst (λ (k : Option (List ℕ)). IsBelow k (key_of e)) w.end (rising_last None es e rising));
     }
 
 -- all entries are written
@@ -77,10 +74,6 @@ pub record IsCommitWrittenTo (tree : Oid) (parents : List Oid) (i : ℕ) (bytes 
 pub commit_begun : (tree : Oid) (parents : List Oid) (bytes : List ℕ) → IsOid tree → bytes ≡ oid_line (codes "tree ") tree → IsCommitWrittenTo tree parents 0 bytes
 commit_begun tree parents bytes is h = record { tree_is = is; each = tt; text = h ∙ sym (append-nil (oid_line (codes "tree ") tree)) }
 
-parents_each : (ps : List Oid) (p : Oid) → AllByRecursion IsOid ps → IsOid p → AllByRecursion IsOid (ps ++ p ∷ [])
-parents_each [] p each is = (is, tt)
-parents_each (q ∷ ps) p each is = (each.0, parents_each ps p each.1 is)
-
 -- the line of one more parent
 pub commit_more : (tree : Oid) (parents : List Oid) (i : ℕ) (bytes new : List ℕ) (d p : Oid) → IsCommitWrittenTo tree parents i bytes
     → i < length parents → get_or parents i d ≡ p → IsOid p → new ≡ bytes ++ oid_line (codes "parent ") p → IsCommitWrittenTo tree parents (i + 1) new
@@ -90,7 +83,7 @@ commit_more tree parents i bytes new d p w inside at is h =
     let more : take (i + 1) parents ≡ ps ++ p ∷ [] = take_more parents i d inside ∙ ap (λ (x : Oid). ps ++ x ∷ []) at in
     record {
       tree_is = w.tree_is;
-      each = subst (λ (l : List Oid). AllByRecursion IsOid l) (sym more) (parents_each ps p w.each is);
+      each = subst (λ (l : List Oid). AllByRecursion IsOid l) (sym more) (each_more IsOid ps p w.each is);
       text =
           h ∙ ap (λ (l : List ℕ). l ++ line) w.text ∙ append_assoc (oid_line (codes "tree ") tree) (parents_text ps) line
           ∙ ap (λ (l : List ℕ). oid_line (codes "tree ") tree ++ l)

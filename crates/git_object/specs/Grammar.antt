@@ -5,6 +5,7 @@ use Rattle.std.specs.declared.cmp.Ordering.TheVariants.{Less}
 use Rattle.std.specs.Ordering.{nat_cmp}
 use Rattle.std.specs.Cmp.Lexicographic.{slice_cmp}
 use Rattle.hex.specs.Hex.{encode_lower}
+use Rattle.rad_base.specs.Lists.{BeginsWith}
 use Rattle.rad_base.specs.Sizes.{IsOid}
 use Rattle.rad_base.specs.declared.names.Oid.{Oid}
 use Rattle.git_object.specs.Names.{kind_word}
@@ -82,10 +83,6 @@ SpellsTree entries bytes = SpellsEntries None entries bytes
 -- the bytes of a tree
 abbrev pub IsTree : List ℕ → Type 0
 IsTree bytes = (entries : List Entry) × SpellsTree entries bytes
-
--- the word stands at the front
-abbrev pub BeginsWith : List ℕ → List ℕ → Type 0
-BeginsWith word bytes = (rest : List ℕ) × (bytes ≡ word ++ rest)
 
 -- a line of a word and the 40 digits of a name
 abbrev pub oid_line : List ℕ → Oid → List ℕ

@@ -3,7 +3,8 @@ use Rattle.std.specs.Prelude.{◌≡◌, ℕ, ◌<◌, ◌≤◌, ◌⊎◌, Lis
 use Rattle.std.specs.List.{AllByRecursion}
 use Rattle.rad_base.specs.Sizes.{IsOid}
 use Rattle.rad_base.specs.declared.names.Oid.{Oid}
-use Rattle.git_object.specs.Grammar.{BeginsWith, Entry, IsBelow, IsEntry, IsTree, entry_text, key_of, oid_line, parents_text, type_line}
+use Rattle.rad_base.specs.Lists.{BeginsWith}
+use Rattle.git_object.specs.Grammar.{Entry, IsBelow, IsEntry, IsTree, entry_text, key_of, oid_line, parents_text, type_line}
 use Rattle.git_object.specs.declared.kind.Kind.{Kind}
 use Rattle.git_object.specs.declared.kind.Kind.TheVariants.{Blob, Tree, Commit, Tag}
 

@@ -4,7 +4,8 @@ ghost use Rattle.std.specs.Prelude.{IfErr, IfOk, IsTrue, OnOk};
 ghost use Rattle.std.specs.List.{All};
 ghost use Rattle.rad_base.specs.Sizes.{HasBytes, IsOid};
 ghost use Rattle.git_object.specs.Faults.{IsTreeFault};
-ghost use Rattle.git_object.specs.Grammar.{BeginsWith, IsName, entry_text, oid_line};
+ghost use Rattle.rad_base.specs.Lists.{BeginsWith};
+ghost use Rattle.git_object.specs.Grammar.{IsName, entry_text, oid_line};
 ghost use Rattle.git_object.specs.Grammar.{SpellsCommit, SpellsTag, SpellsTree};
 ghost use Rattle.git_object.specs.Views.{entry_named, entry_of};
 

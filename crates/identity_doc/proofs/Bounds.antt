@@ -7,7 +7,7 @@ use Rattle.serde_json.specs.Find.{as_u64}
 use Rattle.rad_base.specs.declared.names.Nid.{Nid}
 use Rattle.keyring.specs.Contents.{Contents}
 use Rattle.identity_doc.proofs.DelegateKeys.{read_iff}
-use Rattle.identity_doc.specs.DelegateKeys.{AllDiffer}
+use Rattle.rad_base.specs.Lists.{AllDiffer}
 use Rattle.identity_doc.specs.Documents.{◌>>=◌, Checked, checked, counted_elements, key_in, element_keys, delegate_elements, threshold_number, payload_object, threshold_within, visibility_of, within}
 use Rattle.identity_doc.specs.declared.fault.DocFault.{DocFault}
 use Rattle.identity_doc.specs.declared.visibility.Visibility.{Visibility}

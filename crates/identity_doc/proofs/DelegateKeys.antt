@@ -1,11 +1,13 @@
 -- Reading the keys of delegates: what differs is passed, and the first that fails stops it.
 use Rattle.std.proofs.Common.{◌≡◌, ◌≢◌, ◌↔◌, ◌∙◌, ℕ, zero, suc, ◌<◌, ◌||◌, Bool, true, false, if◌then◌else◌, List, [], ◌∷◌, ◌++◌, length, map, Contains, Option, Some, None, Result, Ok, Err, slice_index_or, true≢false, refl, sym, ap, subst, arith}
-use Rattle.std.specs.List.{AllByRecursion}
 use Rattle.std.specs.Str.{bytes_eq}
+use Rattle.std.proofs.lemmas.Bool.{or_from, or_right}
 use Rattle.std.proofs.lemmas.List.{append-nil, append_assoc}
 use Rattle.std.proofs.lemmas.Slice.Eq.{bytes_eq-Decides}
+use Rattle.rad_base.proofs.EachItem.{differ_more, each_between}
 use Rattle.rad_base.specs.declared.names.Nid.{Nid}
-use Rattle.identity_doc.specs.DelegateKeys.{AllDiffer, LacksKeyAt, RepeatsAt}
+use Rattle.rad_base.specs.Lists.{AllDiffer}
+use Rattle.identity_doc.specs.DelegateKeys.{LacksKeyAt, RepeatsAt}
 use Rattle.identity_doc.specs.Documents.{◌>>=◌, is_among, keys_behind, next_key}
 use Rattle.identity_doc.specs.declared.fault.DocFault.{DocFault}
 use Rattle.identity_doc.specs.declared.fault.DocFault.TheVariants.{BadDelegate, Twice}
@@ -17,9 +19,6 @@ apart : (a b : Nid) (r : Bool) → bytes_eq a.0 b.0 ≡ r → a ≢ b → r ≡ 
 apart a b true h other = absurd (other (same_nid a b h))
 apart a b false h other = refl
 
-or_false : (a b : Bool) → a ≡ false → b ≡ false → (a || b) ≡ false
-or_false a b p q = rw (p, q)
-
 -- a key that is among these is one of them
 among_at : (x : Nid) (xs : List Nid) (key : Nid) (r : Bool) → bytes_eq x.0 key.0 ≡ r → (is_among xs key ≡ true → Contains xs key)
     → (r || is_among xs key) ≡ true → Contains (x ∷ xs) key
@@ -30,48 +29,23 @@ among_contains : (keys : List Nid) (key : Nid) → is_among keys key ≡ true �
 among_contains [] key h = absurd (true≢false (sym h))
 among_contains (x ∷ xs) key h = among_at x xs key _ refl (among_contains xs key) h
 
-or_true : (a b : Bool) → b ≡ true → (a || b) ≡ true
-or_true true b h = refl
-or_true false b h = h
-
 contains_at : (keys : List Nid) (key : Nid) (k : ℕ) → k < length keys → slice_index_or keys k key ≡ key → is_among keys key ≡ true
 contains_at [] key k l e = absurd (omega arith)
 contains_at (x ∷ xs) key zero l e = rw ((bytes_eq-Decides x.0 key.0).1 (ap (λ (n : Nid). n.0) e)) refl
-contains_at (x ∷ xs) key (suc k) l e = or_true _ _ (contains_at xs key k (omega arith) e)
+contains_at (x ∷ xs) key (suc k) l e = or_right _ _ (contains_at xs key k (omega arith) e)
 
 contains_among : (keys : List Nid) (key : Nid) → Contains keys key → is_among keys key ≡ true
 contains_among keys key c = contains_at keys key c.0 c.1 c.2
-
-middle : (P : Nid → Type 0) (xs : List Nid) (key : Nid) (keys : List Nid) → AllByRecursion P (xs ++ key ∷ keys) → P key
-middle P [] key keys h = h.0
-middle P (x ∷ xs) key keys h = middle P xs key keys h.1
 
 -- where no key stands twice, one behind others is not among them
 not_among : (before : List Nid) (key : Nid) (keys : List Nid) → AllDiffer (before ++ key ∷ keys) → is_among before key ≡ false
 not_among [] key keys d = refl
 not_among (x ∷ xs) key keys d =
-    or_false _ _ (apart x key _ refl (middle (λ other. x ≢ other) xs key keys d.0)) (not_among xs key keys d.1)
-
-all_push : (P : Nid → Type 0) (xs : List Nid) (key : Nid) → AllByRecursion P xs → P key → AllByRecursion P (xs ++ key ∷ [])
-all_push P [] key h p = (p, tt)
-all_push P (x ∷ xs) key h p = (h.0, all_push P xs key h.1 p)
-
-left_false : (a b : Bool) → (a || b) ≡ false → a ≡ false
-left_false true b h = h
-left_false false b h = refl
-
-right_false : (a b : Bool) → (a || b) ≡ false → b ≡ false
-right_false true b h = absurd (true≢false h)
-right_false false b h = h
-
-unlike : (x key : Nid) → bytes_eq x.0 key.0 ≡ false → x ≢ key
-unlike x key h same = true≢false (sym ((bytes_eq-Decides x.0 key.0).1 (ap (λ (n : Nid). n.0) same)) ∙ h)
+    or_from _ _ (apart x key _ refl (each_between (λ other. x ≢ other) xs key keys d.0)) (not_among xs key keys d.1)
 
 -- one more key that is not among them
 differ_push : (xs : List Nid) (key : Nid) → AllDiffer xs → is_among xs key ≡ false → AllDiffer (xs ++ key ∷ [])
-differ_push [] key d h = (tt, tt)
-differ_push (x ∷ xs) key d h =
-    (all_push (λ other. x ≢ other) xs key d.0 (unlike x key (left_false _ _ h)), differ_push xs key d.1 (right_false _ _ h))
+differ_push xs key d other = differ_more xs key d (λ has. true≢false (sym (contains_among xs key has) ∙ other))
 
 -- keys that all differ are passed
 pub passed : (before keys : List Nid) (rest : List (Option Nid)) → AllDiffer (before ++ keys)

@@ -9,7 +9,7 @@ use Rattle.keyring.specs.Contents.{Contents}
 use Rattle.commit_graph.specs.Objects.{ObjectMap}
 use Rattle.commit_graph.specs.Walks.{Walk}
 use Rattle.commit_graph.specs.Chains.{HasParents, IsLine}
-use Rattle.commit_graph.proofs.Members.{contains_cases, contains_nothing}
+use Rattle.rad_base.proofs.Members.{contains_cases, contains_nothing}
 use Rattle.commit_graph.proofs.PairSteps.{missing_unfit, unfit_apart}
 use Rattle.tree_entry.proofs.OneEntry.{one_content, one_embedded}
 use Rattle.identity_doc.specs.declared.doc.Doc.{Doc}

@@ -1,12 +1,7 @@
 -- The keys of delegates and the first element that fails, said of the whole list.
-use Rattle.std.specs.Prelude.{◌≡◌, ◌≢◌, ℕ, List, [], ◌∷◌, ◌++◌, length, map, Contains, Option, Some, None}
-use Rattle.std.specs.List.{AllByRecursion}
+use Rattle.std.specs.Prelude.{◌≡◌, ℕ, List, ◌∷◌, ◌++◌, length, map, Contains, Option, Some, None}
+use Rattle.rad_base.specs.Lists.{AllDiffer}
 use Rattle.rad_base.specs.declared.names.Nid.{Nid}
-
--- no key stands twice
-abbrev pub AllDiffer : List Nid → Type 0
-AllDiffer [] = Unit {0}
-AllDiffer (key ∷ keys) = AllByRecursion (λ other. key ≢ other) keys × AllDiffer keys
 
 -- element i, behind elements whose keys all differ, has no key
 pub record LacksKeyAt (i : ℕ) (found : List (Option Nid)) : Type 0 where

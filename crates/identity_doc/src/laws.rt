@@ -2,7 +2,8 @@
 ghost use Rattle.std.specs.Prelude.{◌≡◌, ◌≤◌, ◌↔◌, ℕ, List, [], length, map, Option, Ok, Err, Some};
 ghost use Rattle.serde_json.specs.Data.{Data};
 ghost use Rattle.keyring.specs.Contents.{Contents};
-ghost use Rattle.identity_doc.specs.DelegateKeys.{AllDiffer, LacksKeyAt, RepeatsAt};
+ghost use Rattle.identity_doc.specs.DelegateKeys.{LacksKeyAt, RepeatsAt};
+ghost use Rattle.rad_base.specs.Lists.{AllDiffer};
 ghost use Rattle.identity_doc.specs.Documents.{IsDocument, IsRefused, keys_behind};
 ghost use Rattle.identity_doc.specs.declared.fault.DocFault.TheVariants.{BadDelegate, Twice};
 ghost use Rattle.rad_base.specs.declared.names.Nid.{Nid};

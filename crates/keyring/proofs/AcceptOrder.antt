@@ -1,11 +1,9 @@
 -- The order of what lines accept is total, and equal only at equals.
 use Rattle.std.proofs.Common.{◌≡◌, List, ℕ, refl}
 use Rattle.std.specs.Cmp.{IsTotalOrder}
-use Rattle.std.specs.Ordering.{ordering_then}
-use Rattle.std.specs.declared.cmp.Ordering.{Ordering}
-use Rattle.std.specs.declared.cmp.Ordering.TheVariants.{Less, Equal, Greater}
 use Rattle.std.proofs.lemmas.Cmp.{on_total, then_total, nat_list_cmp_total}
 use Rattle.std.proofs.lemmas.Map.Lookups.{CmpEqualImpliesEq, exact_bytes}
+use Rattle.rad_base.proofs.NameOrder.{both_equal}
 use Rattle.keyring.specs.Accepts.{accept_cmp}
 use Rattle.keyring.specs.declared.accept.Accept.{Accept}
 
@@ -14,11 +12,6 @@ pub accept_total : IsTotalOrder accept_cmp
 accept_total =
     then_total (on_total (λ accept. accept.key.0) nat_list_cmp_total)
     (then_total (on_total (λ accept. accept.digest.0) nat_list_cmp_total) (on_total (λ accept. accept.sig.0) nat_list_cmp_total))
-
-both_equal : (o p : Ordering) → ordering_then o p ≡ Equal → (o ≡ Equal) × (p ≡ Equal)
-both_equal Less p e = cc e
-both_equal Equal p e = (refl, e)
-both_equal Greater p e = cc e
 
 -- three parts make what a line accepts
 pub same_accept : (a b : Accept) → a.key.0 ≡ b.key.0 → a.digest.0 ≡ b.digest.0 → a.sig.0 ≡ b.sig.0 → a ≡ b

@@ -1,6 +1,4 @@
 pub mod AcceptOrder
-pub mod Conditions
-pub mod Contained
 pub mod DirectTexts
 pub mod Files
 pub mod LineFronts

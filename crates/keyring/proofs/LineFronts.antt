@@ -7,7 +7,7 @@ use Rattle.hex.proofs.HexLemmas.{decode_of-encode_lower, decode_of-ok, decode_of
 use Rattle.rad_base.specs.declared.names.Nid.{Nid}
 use Rattle.rad_base.specs.declared.names.Sig.{Sig}
 use Rattle.rad_base.specs.Sizes.{IsNid, IsSig, Lacks}
-use Rattle.rad_base.proofs.OneFront.{one_front, one_nid_text, one_sig_text, one_text, one_until, not_lacking}
+use Rattle.rad_base.proofs.OneFront.{one_behind, one_front, one_nid_text, one_sig_text, one_text, one_until, not_lacking}
 use Rattle.keyring.specs.declared.accept.Accept.{Accept}
 use Rattle.keyring.specs.Lines.{BeginsWith, IsMessage, IsText, Line, accepted, line_text, named, owned}
 use Rattle.keyring.proofs.AcceptOrder.{same_accept}
@@ -36,12 +36,6 @@ behind word a b e = (one_front word word a b refl e).1
 -- bytes that lack a byte are no two parts around it
 pub no_stop : (stop : ℕ) (bytes : List ℕ) → Lacks stop bytes → (front rest : List ℕ) → bytes ≡ front ++ stop ∷ rest → ⊥
 no_stop stop bytes lacks front rest e = let split : Lacks stop (front ++ stop ∷ rest) = rw (sym e) lacks in not_lacking stop front rest split
-
-behind_feed : (a b : List ℕ) → 10 ∷ a ≡ 10 ∷ b → a ≡ b
-behind_feed a b e = cc e
-
-behind_space : (a b : List ℕ) → 32 ∷ a ≡ 32 ∷ b → a ≡ b
-behind_space a b e = cc e
 
 -- ---- names
 
@@ -107,7 +101,7 @@ pub record ReadKey (bytes behind_key : List ℕ) : Type 0 where
 accept_digest : (bytes behind_key : List ℕ) → ReadKey bytes behind_key → (accept : Accept) (rest : List ℕ) → BeginsWith (accepted accept) rest bytes
     → behind_key ≡ encode_lower accept.digest.0 ++ 32 ∷ (encode_lower accept.sig.0 ++ 10 ∷ rest)
 accept_digest bytes behind_key r accept rest b =
-    behind_space _ _ (one_nid_text r.key accept.key _ _ r.is_key b.good.key (sym r.split ∙ accept_behind bytes r.more accept rest r.word b)).1
+    one_behind 32 _ _ (one_nid_text r.key accept.key _ _ r.is_key b.good.key (sym r.split ∙ accept_behind bytes r.more accept rest r.word b)).1
 
 -- no signature is in front where no digest follows the key
 pub no_accept_digest : (bytes behind_key : List ℕ) → ReadKey bytes behind_key
@@ -127,7 +121,7 @@ pub record ReadDigest (bytes behind_digest : List ℕ) : Type 0 where
 accept_sig : (bytes behind_digest : List ℕ) → ReadDigest bytes behind_digest → (accept : Accept) (rest : List ℕ)
     → BeginsWith (accepted accept) rest bytes → behind_digest ≡ encode_lower accept.sig.0 ++ 10 ∷ rest
 accept_sig bytes behind_digest r accept rest b =
-    behind_space _ _ (one_text 32 r.digest.0 accept.digest.0 _ _ r.is_digest b.good.digest
+    one_behind 32 _ _ (one_text 32 r.digest.0 accept.digest.0 _ _ r.is_digest b.good.digest
     (sym r.split ∙ accept_digest bytes r.behind_key r.before accept rest b)).1
 
 -- nor where no signature follows the digest
@@ -184,16 +178,16 @@ one_name text other key nid rest more bytes b d =
     let keys = one_nid_text key nid _ _ b.good.1 d.good.1 texts.1 in
     let same_text = texts.0 in
     let same_key = keys.0 in
-    (cc, behind_feed rest more keys.1)
+    (cc, one_behind 10 rest more keys.1)
 
 one_accept : (a c : Accept) (rest more bytes : List ℕ) → BeginsWith (accepted a) rest bytes → BeginsWith (accepted c) more bytes
     → IsOne (accepted a) (accepted c) rest more
 one_accept a c rest more bytes b d =
     let keys = one_text 32 a.key.0 c.key.0 _ _ b.good.key d.good.key
     (sym (accept_behind bytes _ a rest (b.text ∙ accept_parts a rest) b) ∙ accept_behind bytes _ c more (b.text ∙ accept_parts a rest) d) in
-    let digests = one_text 32 a.digest.0 c.digest.0 _ _ b.good.digest d.good.digest (behind_space _ _ keys.1) in
-    let sigs = one_text 64 a.sig.0 c.sig.0 _ _ b.good.sig d.good.sig (behind_space _ _ digests.1) in
-    (ap accepted (same_accept a c keys.0 digests.0 sigs.0), behind_feed rest more sigs.1)
+    let digests = one_text 32 a.digest.0 c.digest.0 _ _ b.good.digest d.good.digest (one_behind 32 _ _ keys.1) in
+    let sigs = one_text 64 a.sig.0 c.sig.0 _ _ b.good.sig d.good.sig (one_behind 32 _ _ digests.1) in
+    (ap accepted (same_accept a c keys.0 digests.0 sigs.0), one_behind 10 rest more sigs.1)
 
 one_own : (message other rest more bytes : List ℕ) → BeginsWith (owned message) rest bytes → BeginsWith (owned other) more bytes
     → IsOne (owned message) (owned other) rest more

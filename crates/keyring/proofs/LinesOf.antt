@@ -19,7 +19,8 @@ use Rattle.keyring.specs.Contents.{Contents, contents_of, key_of}
 use Rattle.keyring.specs.Lines.{AreLines, AreLinesBehind, Line, MayFollow, accepted, accepts_in, named, names_in, owned}
 use Rattle.keyring.specs.Texts.{direct_text}
 use Rattle.keyring.proofs.AcceptOrder.{accept_exact, accept_total}
-use Rattle.keyring.proofs.Contained.{contains_cases, contains_head, contains_nothing, contains_tail}
+use Rattle.rad_base.proofs.NameOrder.{equals_itself}
+use Rattle.rad_base.proofs.Members.{contains_cases, contains_head, contains_nothing, contains_tail}
 use Rattle.keyring.proofs.DirectTexts.{direct_is, no_direct}
 use Rattle.keyring.proofs.Saying.{named_in}
 
@@ -87,9 +88,6 @@ not_again before (line ∷ lines) text other key good has h =
     (λ tail. not_again (before ++ line ∷ []) lines text other key good.2 (Contains-append_left before (line ∷ []) (named text other) has) tail)
     (contains_cases line lines (named text key) h)
 
-itself : (text : List ℕ) → is_eq (slice_cmp nat_cmp text text) ≡ true
-itself text = (eq_by_cmp_equiv nat_list_cmp_total).refl text
-
 same_text : (a b : List ℕ) (k l : Nid) → named a k ≡ named b l → a ≡ b
 same_text a b k l e = cc e
 
@@ -100,7 +98,7 @@ first_name : (text other : List ℕ) (nid key : Nid) (rest : Option Nid) → nam
     → cond (is_eq (slice_cmp nat_cmp text other)) (Some nid) rest ≡ Some key
 first_name text other nid key rest same =
     ap (λ t. cond (is_eq (slice_cmp nat_cmp text t)) (Some nid) rest) (same_text other text nid key same)
-    ∙ ap (λ b. cond b (Some nid) rest) (itself text) ∙ ap (λ (k : Nid). Some k) (same_key other text nid key same)
+    ∙ ap (λ b. cond b (Some nid) rest) (equals_itself text) ∙ ap (λ (k : Nid). Some k) (same_key other text nid key same)
 
 later_name : (b : Bool) (nid key : Nid) (rest : Option Nid) → (b ≡ true → ⊥) → rest ≡ Some key → cond b (Some nid) rest ≡ Some key
 later_name true nid key rest not h = absurd (not refl)

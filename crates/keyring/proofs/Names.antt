@@ -1,4 +1,5 @@
 -- Names in a map by the bytes of their texts.
+use Rattle.rad_base.proofs.NameOrder.{equal_from_is_eq}
 use Rattle.std.proofs.Common.{◌≡◌, ℕ, Bool, true, false, cond, List, [], ◌∷◌, Vec, Option, Some, None, refl, sym, ap, ◌∙◌}
 use Rattle.std.specs.declared.alloc.Global.{Global}
 use Rattle.std.specs.declared.cmp.Ordering.{Ordering}
@@ -40,11 +41,6 @@ by_text-insert_entry [] text key = refl
 by_text-insert_entry (name ∷ names) text key =
     put_step (vec_cmp text name.0) name names (insert_entry vec_cmp names text key) text key _ (by_text-insert_entry names text key)
 
-equal_from : (o : Ordering) → is_eq o ≡ true → o ≡ Equal
-equal_from Less h = cc h
-equal_from Equal h = refl
-equal_from Greater h = cc h
-
 over : {X : Type 0} (b : Bool) (x y : X) (z : Option X) → cond b (Some x) z ≡ cond b (Some x) (cond b (Some y) z)
 over true x y z = refl
 over false x y z = refl
@@ -70,7 +66,7 @@ module _ {K : Type 0} (R : K → K → Ordering) (total : IsTotalOrder R) (exact
   found_step Greater k q v e es put h ih =
       ap (cond (is_eq (R q e.0)) (Some e.1)) ih
       ∙ beside (is_eq (R q e.0)) (is_eq (R k q)) v e.1 (lookup (is_at (R q)) es)
-      (λ there. ap (λ x. is_eq (R k x)) (exact q e.0 (equal_from (R q e.0) there)) ∙ ap is_eq h)
+      (λ there. ap (λ x. is_eq (R k x)) (exact q e.0 (equal_from_is_eq (R q e.0) there)) ∙ ap is_eq h)
 
   -- a key that was put is found, and the others are found as before
   lookup-insert_entry : {X : Type 0} (es : List (K × X)) (k : K) (v : X) (q : K)

@@ -21,7 +21,8 @@ use Rattle.keyring.specs.Contents.{Contents, contents_of}
 use Rattle.keyring.specs.Lines.{Line, MayFollow, accepted, accepts_in, named, names_in, owned, owned_in}
 use Rattle.keyring.specs.Readers.{Adds, by_text}
 use Rattle.keyring.proofs.AcceptOrder.{accept_exact, accept_total}
-use Rattle.keyring.proofs.Contained.{contains_cases, contains_head, contains_nothing, contains_tail}
+use Rattle.rad_base.proofs.NameOrder.{equals_itself}
+use Rattle.rad_base.proofs.Members.{contains_cases, contains_head, contains_nothing, contains_tail}
 use Rattle.keyring.proofs.Names.{from_entries-insert_entry, lookup_by_text}
 
 -- ---- lines behind lines
@@ -69,17 +70,13 @@ some_not_none : {X : Type 0} (b : Bool) (x : X) (o : Option X) → cond b (Some 
 some_not_none true x o e = cc e
 some_not_none false x o e = (λ h. cc h, e)
 
--- a text is equal to itself in the order of texts
-itself : (text : List ℕ) → is_eq (slice_cmp nat_cmp text text) ≡ true
-itself text = (eq_by_cmp_equiv nat_list_cmp_total).refl text
-
 -- where none is found, no line names the text
 pub named_found : (text : List ℕ) (lines : List Line) → named_in text lines ≡ None → (key : Nid) → Contains lines (named text key) → ⊥
 named_found text [] e key h = contains_nothing (named text key) h
 named_found text (named other nid ∷ lines) e key h =
     let parts = some_not_none (is_eq (slice_cmp nat_cmp text other)) nid (named_in text lines) e in
     ⊎_elim
-    (λ same. let texts : other ≡ text = cc same in parts.0 (rw texts (itself text)))
+    (λ same. let texts : other ≡ text = cc same in parts.0 (rw texts (equals_itself text)))
     (λ tail. named_found text lines parts.1 key tail)
     (contains_cases (named other nid) lines (named text key) h)
 named_found text (accepted accept ∷ lines) e key h =

@@ -47,6 +47,10 @@ one_front x y a b size e = (
   sym (drop_at x a (length x) refl) ∙ ap (drop (length x)) e ∙ drop_at y b (length x) (sym size),
 )
 
+-- what stands behind one item in front is one
+pub one_behind : {X : Type 0} (x : X) (xs ys : List X) → x ∷ xs ≡ x ∷ ys → xs ≡ ys
+one_behind x xs ys e = cc e
+
 bytes_in_front : (n : ℕ) (bytes : List ℕ) → IsBytes bytes → IsBytes (take n bytes)
 bytes_in_front n bytes fits i =
     elim (cases_lt i n) [

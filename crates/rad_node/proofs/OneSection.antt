@@ -3,6 +3,7 @@ use Rattle.std.proofs.Common.{◌≡◌, ℕ, List, [], ◌∷◌, ◌++◌, get
 use Rattle.std.proofs.lemmas.List.{append-nil}
 use Rattle.std.specs.List.{AllByRecursion}
 use Rattle.std.specs.Prelude.{codes}
+use Rattle.rad_base.proofs.EachItem.{each_more}
 use Rattle.rad_node.specs.Bundle.{IsObject, Object, object_text, objects_text}
 use Rattle.rad_node.proofs.OnePart.{one_object}
 
@@ -16,10 +17,6 @@ pub record HasRead (objects : List Object) (bytes rest : List ℕ) : Type 0 wher
   pub each : AllByRecursion IsObject objects
   pub text : bytes ≡ read_text objects ++ rest
 
-each_more : (os : List Object) (o : Object) → AllByRecursion IsObject os → IsObject o → AllByRecursion IsObject (os ++ o ∷ [])
-each_more [] o each is = (is, tt)
-each_more (p ∷ os) o each is = (each.0, each_more os o each.1 is)
-
 read_text-more : (os : List Object) (o : Object) (more : List ℕ) → read_text os ++ 79 ∷ (object_text o ++ more) ≡ read_text (os ++ o ∷ []) ++ more
 read_text-more [] o more = ap (λ (l : List ℕ). 79 ∷ (l ++ more)) (sym (append-nil (object_text o)))
 read_text-more (p ∷ os) o more =
@@ -32,7 +29,7 @@ read_text-more (p ∷ os) o more =
 pub read_more : (os : List Object) (o : Object) (bytes rest more : List ℕ) → HasRead os bytes rest → IsObject o → rest ≡ 79 ∷ (object_text o ++ more)
     → HasRead (os ++ o ∷ []) bytes more
 read_more os o bytes rest more h is e = record {
-  each = each_more os o h.each is;
+  each = each_more IsObject os o h.each is;
   text = h.text ∙ ap (λ (l : List ℕ). read_text os ++ l) e ∙ read_text-more os o more;
 }
 

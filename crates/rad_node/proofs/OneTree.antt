@@ -15,10 +15,6 @@ use Rattle.rad_node.specs.Form.{IsRootOf, entry}
 pub never : (P : Type 0) → (P → ⊥) → (false ≡ true → P) × (P → false ≡ true)
 never P absent = (λ h. absurd (cc), λ p. absurd (absent p))
 
--- a test that is false did not hold
-pub differ : (b : Bool) → b ≡ true → b ≡ false → ⊥
-differ b e f = cc
-
 -- what `==` says of two names
 pub same_oid : (a b : Oid) (r : Bool) → r ≡ pointwise nat_eq a.0 b.0 → (r ≡ true → a ≡ b) × (a ≡ b → r ≡ true)
 same_oid a b r e =

@@ -1,5 +1,6 @@
 -- The objects of the three sections by their kind.
 use Rattle.std.proofs.Common.{◌≡◌, ℕ, ◌+◌, suc, List, [], ◌∷◌, length, refl, sym, ap, subst, ◌⊎◌, inl, inr, cond, arith}
+use Rattle.std.proofs.lemmas.List.{nil_from_length}
 use Rattle.git_object.specs.declared.kind.Kind.{Kind}
 use Rattle.git_object.specs.declared.kind.Kind.TheVariants.{Blob, Tree, Commit, Tag}
 use Rattle.rad_node.specs.Bundle.{Object}
@@ -29,10 +30,6 @@ kinds_size [] = refl
 kinds_size (o ∷ objects) =
     kinds_step o.kind o.content (contents_of Commit objects) (contents_of Tree objects) (contents_of Blob objects) (contents_of Tag objects) (length objects) (kinds_size objects)
 
-nothing : {X : Type 0} (xs : List X) → length xs ≡ 0 → xs ≡ []
-nothing [] e = refl
-nothing (x ∷ xs) e = absurd (omega arith)
-
 -- one commit, one tree and one blob
 pub record HasTip (commit tree file : List ℕ) (objects : List Object) : Type 0 where
   pub size : length objects ≡ 3
@@ -57,7 +54,7 @@ pub record HasIdentity (commit first second blob : List ℕ) (objects : List Obj
 -- no tag is among them
 no_tags : (objects : List Object) (m n o : ℕ) → length objects ≡ m + n + o → length (contents_of Commit objects) ≡ m
     → length (contents_of Tree objects) ≡ n → length (contents_of Blob objects) ≡ o → contents_of Tag objects ≡ []
-no_tags objects m n o size commits trees blobs = nothing _ (omega (arith, kinds_size objects, size, commits, trees, blobs))
+no_tags objects m n o size commits trees blobs = nil_from_length _ (omega (arith, kinds_size objects, size, commits, trees, blobs))
 
 -- the objects of each kind are these in any order
 same_kinds : (roles objects : List Object)

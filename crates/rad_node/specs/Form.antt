@@ -12,7 +12,8 @@ use Rattle.rad_base.specs.declared.names.Oid.{Oid}
 use Rattle.rad_base.specs.declared.names.Rid.{Rid}
 use Rattle.rad_node.specs.Bundle.{Object, OneRemote, SpellsBundle, bundle_with}
 use Rattle.rad_node.specs.Keys.{accept_line}
-use Rattle.rad_node.specs.Orders.{AllDiffer, InAnyOrder}
+use Rattle.rad_base.specs.Lists.{AllDiffer}
+use Rattle.rad_node.specs.Orders.{InAnyOrder}
 
 -- an object of a kind
 abbrev pub object : Kind → List ℕ → Object

@@ -1,6 +1,5 @@
--- Lists in any order, and lists without repeats.
-use Rattle.std.specs.Prelude.{◌≡◌, ◌≢◌, List, [], ◌∷◌, ◌++◌}
-use Rattle.std.specs.List.{AllByRecursion}
+-- Lists in any order.
+use Rattle.std.specs.Prelude.{◌≡◌, List, [], ◌∷◌, ◌++◌}
 
 -- x stands somewhere in the whole list, and the rest is all others in their order
 pub record TakesOut {X : Type 0} (x : X) (whole rest : List X) : Type 0 where
@@ -13,8 +12,3 @@ pub record TakesOut {X : Type 0} (x : X) (whole rest : List X) : Type 0 where
 unfoldable pub InAnyOrder : {X : Type 0} → List X → List X → Type 0
 InAnyOrder [] ys = ys ≡ []
 InAnyOrder {X} (x ∷ xs) ys = (rest : List X) × (TakesOut x ys rest × InAnyOrder xs rest)
-
--- no element is there twice
-abbrev pub AllDiffer : {X : Type 0} → List X → Type 0
-AllDiffer [] = Unit {0}
-AllDiffer (x ∷ xs) = AllByRecursion (λ y. x ≢ y) xs × AllDiffer xs

@@ -1,7 +1,7 @@
 // Names that differ.
 ghost use Rattle.std.specs.Prelude.{◌↔◌, ◌≢◌, IsTrue};
 ghost use Rattle.std.specs.List.{AllByRecursion};
-ghost use Rattle.rad_node.specs.Orders.{AllDiffer};
+ghost use Rattle.rad_base.specs.Lists.{AllDiffer};
 
 use rad_base::Oid;
 

@@ -1,9 +1,10 @@
 -- Words inside of bytes, a byte at a time.
 use Rattle.std.proofs.Common.{◌≡◌, ℕ, ◌<◌, List, [], ◌∷◌, ◌++◌, length, ap, arith, length-append}
-use Rattle.ref_name.specs.Rules.{Begins, Has}
+use Rattle.rad_base.specs.Lists.{BeginsWith}
+use Rattle.ref_name.specs.Rules.{Has}
 
 -- a word at the front stands somewhere
-pub has_in_front : (word bytes : List ℕ) → Begins word bytes → Has word bytes
+pub has_in_front : (word bytes : List ℕ) → BeginsWith word bytes → Has word bytes
 has_in_front word bytes h = ([], h.0, h.1)
 
 -- a word in the rest stands somewhere
@@ -14,7 +15,7 @@ same_rest : (a b : ℕ) (x y : List ℕ) → a ∷ x ≡ b ∷ y → x ≡ y
 same_rest a b x y e = cc e
 
 -- a word that stands somewhere and not at the front stands in the rest
-pub has_behind : (word : List ℕ) (byte : ℕ) (rest : List ℕ) → (Begins word (byte ∷ rest) → ⊥) → Has word (byte ∷ rest) → Has word rest
+pub has_behind : (word : List ℕ) (byte : ℕ) (rest : List ℕ) → (BeginsWith word (byte ∷ rest) → ⊥) → Has word (byte ∷ rest) → Has word rest
 has_behind word byte rest none h = behind h.0 h.1 h.2
   where
     behind : (front after : List ℕ) → byte ∷ rest ≡ front ++ (word ++ after) → Has word rest

@@ -28,10 +28,6 @@ any_cases {X} P x xs h = cases h.0 h.1 h.2 h.3 h.4
     cases zero y inside e h = inl (subst P (sym e) h)
     cases (suc k) y inside e h = inr (k, y, omega (arith, inside), e, h)
 
--- a test has one answer
-pub differ : (b : Bool) → b ≡ true → b ≡ false → ⊥
-differ b e f = cc
-
 -- ---- components
 
 not_slash : (c : ℕ) (b : Bool) → (c == 47) ≡ b → c ≢ 47 → (c == 47) ≡ false

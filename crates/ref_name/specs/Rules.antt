@@ -2,11 +2,8 @@
 use Rattle.std.specs.Prelude.{◌≡◌, ℕ, ◌≤◌, nat_lt, ◌==◌, if◌then◌else◌, Bool, ◌||◌, List, [], ◌∷◌, ◌++◌, codes, IsTrue, Option, Some, None, ◌⊎◌}
 use Rattle.std.specs.Bool.{MatchBool}
 use Rattle.std.specs.List.{Any, list_any}
+use Rattle.rad_base.specs.Lists.{BeginsWith}
 use Rattle.rad_base.specs.Sizes.{Lacks}
-
--- the bytes begin with the word
-abbrev pub Begins : List ℕ → List ℕ → Type 0
-Begins word bytes = (rest : List ℕ) × (bytes ≡ word ++ rest)
 
 -- the bytes end with the word
 abbrev pub Ends : List ℕ → List ℕ → Type 0
@@ -28,7 +25,7 @@ components (byte ∷ name) = if byte == 47 then [] ∷ components name else in_f
 
 -- it begins with `.` or ends with `.lock`
 abbrev pub IsBadComponent : List ℕ → Type 0
-IsBadComponent component = Begins (codes ".") component ⊎ Ends (codes ".lock") component
+IsBadComponent component = BeginsWith (codes ".") component ⊎ Ends (codes ".lock") component
 
 -- a control byte, a space, `~`, `^` or `:`
 abbrev pub is_control : ℕ → Bool
@@ -40,7 +37,7 @@ is_pattern byte = (byte == 63) || (byte == 42) || (byte == 91)
 
 -- a slash at the front, at the end, or behind another
 abbrev pub HasBadSlash : List ℕ → Type 0
-HasBadSlash name = Begins (codes "/") name ⊎ (Ends (codes "/") name ⊎ Has (codes "//") name)
+HasBadSlash name = BeginsWith (codes "/") name ⊎ (Ends (codes "/") name ⊎ Has (codes "//") name)
 
 -- the name breaks the rule of this number
 abbrev pub Breaks : ℕ → List ℕ → Type 0

@@ -1,11 +1,12 @@
 // Words at the front, at the end and inside of bytes.
 ghost use Rattle.std.specs.Prelude.{◌↔◌, ◌<◌, length, IsTrue};
-ghost use Rattle.ref_name.specs.Rules.{Begins, Ends, Has};
+ghost use Rattle.rad_base.specs.Lists.{BeginsWith};
+ghost use Rattle.ref_name.specs.Rules.{Ends, Has};
 
 use rad_base::after;
 
 pub(crate) fn begins(bytes: &[u8], word: &[u8]) -> bool
-    ensures { IsTrue result ↔ Begins word.now bytes.now }
+    ensures { IsTrue result ↔ BeginsWith word.now bytes.now }
 {
     after(bytes, word).is_some()
 }

@@ -5,7 +5,7 @@ use Rattle.std.proofs.lemmas.List.{get_or_default}
 use Rattle.hex.specs.Hex.{encode_lower}
 use Rattle.rad_base.specs.declared.names.Oid.{Oid}
 use Rattle.rad_base.specs.Sizes.{IsOid, Lacks}
-use Rattle.rad_base.proofs.OneFront.{not_lacking, one_oid_text, one_until}
+use Rattle.rad_base.proofs.OneFront.{one_behind, not_lacking, one_oid_text, one_until}
 use Rattle.ref_name.specs.Rules.{KeepsRules, is_control}
 use Rattle.signed_refs.specs.Lines.{IsLine, IsSignedName, Line, line_text}
 
@@ -17,9 +17,6 @@ line_parts line rest = simp append_assoc
 pub lacks_feed : (name : List ℕ) → KeepsRules name → Lacks 10 name
 lacks_feed name keeps k d inside e =
     keeps 4 (list_any-from_Any is_control name (k, 10, inside, get_or_default name k 10 d inside ∙ e, refl))
-
-behind_space : (a b : List ℕ) → 32 ∷ a ≡ 32 ∷ b → a ≡ b
-behind_space a b e = cc e
 
 -- what stands behind the name of an object in front of a line
 pub behind_oid : (oid : Oid) (behind bytes : List ℕ) (line : Line) (rest : List ℕ) → IsOid oid → bytes ≡ encode_lower oid.0 ++ behind
@@ -35,7 +32,7 @@ no_space oid behind bytes is e none line rest good f = none _ (behind_oid oid be
 behind_both : (oid : Oid) (behind after bytes : List ℕ) → IsOid oid → bytes ≡ encode_lower oid.0 ++ behind → behind ≡ 32 ∷ after
     → (line : Line) (rest : List ℕ) → IsLine line → bytes ≡ line_text line ++ rest → after ≡ line.0 ++ 10 ∷ rest
 behind_both oid behind after bytes is e space line rest good f =
-    behind_space after (line.0 ++ 10 ∷ rest) (sym space ∙ (behind_oid oid behind bytes line rest is e good f).1)
+    one_behind 32 after (line.0 ++ 10 ∷ rest) (sym space ∙ (behind_oid oid behind bytes line rest is e good f).1)
 
 -- nor where no line ends
 pub no_feed : (oid : Oid) (behind after bytes : List ℕ) → IsOid oid → bytes ≡ encode_lower oid.0 ++ behind → behind ≡ 32 ∷ after
@@ -61,5 +58,5 @@ pub one_line : (line other : Line) (rest more : List ℕ) → IsLine line → Is
 one_line line other rest more good fine e =
     let first = behind_oid line.1 (32 ∷ (line.0 ++ 10 ∷ rest)) (line_text line ++ rest) other more good.oid (line_parts line rest) fine e in
     let second = one_until 10 line.0 other.0 rest more (lacks_feed line.0 good.name.keeps) (lacks_feed other.0 fine.name.keeps)
-    (behind_space (line.0 ++ 10 ∷ rest) (other.0 ++ 10 ∷ more) first.1) in
+    (one_behind 32 (line.0 ++ 10 ∷ rest) (other.0 ++ 10 ∷ more) first.1) in
     (same_parts line other second.0 first.0, second.1)

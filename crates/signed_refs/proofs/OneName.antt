@@ -2,14 +2,15 @@
 use Rattle.std.proofs.Common.{◌≡◌, ℕ, zero, suc, ◌+◌, ◌-◌, ◌<◌, ◌==◌, Bool, List, [], ◌∷◌, length, get_or, Option, None, Some, ⊎_elim, refl, sym, ap, subst, ◌∙◌, arith}
 use Rattle.std.specs.Prelude.{Contains, IsTrue, ◌↔◌, slice_get}
 use Rattle.std.specs.Cmp.Lexicographic.{slice_cmp}
-use Rattle.std.specs.Ordering.{nat_cmp, ordering_index, ordering_reverse}
+use Rattle.std.specs.Ordering.{nat_cmp, ordering_index}
 use Rattle.std.specs.declared.cmp.Ordering.{Ordering}
 use Rattle.std.specs.declared.cmp.Ordering.TheVariants.{Less, Equal, Greater}
 use Rattle.std.proofs.lemmas.Cmp.{nat_list_cmp_total}
 use Rattle.std.proofs.lemmas.Option.{slice_get_within}
-use Rattle.ref_name.proofs.Parts.{differ}
+use Rattle.rad_base.proofs.Conditions.{differ}
 use Rattle.rad_base.specs.declared.names.Oid.{Oid}
-use Rattle.commit_graph.proofs.Members.{contains_cases, contains_nothing}
+use Rattle.rad_base.proofs.Members.{contains_cases, contains_nothing}
+use Rattle.rad_base.proofs.NameOrder.{not_below_itself}
 use Rattle.signed_refs.specs.Lines.{Line, RiseFrom, last_from}
 
 -- every name of rising lines is above the name before them
@@ -20,15 +21,6 @@ above_all name (x ∷ lines) line rising has =
     ⊎_elim (λ e. subst (λ (l : Line). slice_cmp nat_cmp name l.0 ≡ Less) e rising.0)
     (λ later. nat_list_cmp_total.trans name x.0 line.0 rising.0 (above_all x.0 lines line rising.1 later))
     (contains_cases x lines line has)
-
-not_reversed : (o : Ordering) → o ≡ ordering_reverse o → o ≡ Less → ⊥
-not_reversed Less e h = cc e
-not_reversed Equal e h = cc h
-not_reversed Greater e h = cc h
-
--- no name is below itself
-pub not_below_itself : (name : List ℕ) → slice_cmp nat_cmp name name ≡ Less → ⊥
-not_below_itself name h = not_reversed (slice_cmp nat_cmp name name) (nat_list_cmp_total.antisymm name name) h
 
 not_again : (x : Line) (lines : List Line) (name : List ℕ) (a b : Oid) → RiseFrom (Some x.0) lines → x ≡ (name, a) → Contains lines (name, b) → ⊥
 not_again x lines name a b rising e has =

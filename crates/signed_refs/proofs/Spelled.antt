@@ -1,8 +1,8 @@
 -- Lines and their bytes, a line at a time.
 use Rattle.std.proofs.Common.{◌≡◌, ℕ, ◌+◌, ◌<◌, ◌≤◌, List, [], ◌∷◌, ◌++◌, length, Option, None, Some, refl, sym, ap, subst, ◌∙◌, arith, append_assoc, length-append}
-use Rattle.std.specs.List.{AllByRecursion}
 use Rattle.std.proofs.lemmas.List.{append-nil}
 use Rattle.std.proofs.lemmas.Grind.{flat_map-append}
+use Rattle.rad_base.proofs.EachItem.{each_more}
 use Rattle.hex.specs.Hex.{encode_lower}
 use Rattle.git_object.specs.Grammar.{IsBelow}
 use Rattle.signed_refs.specs.Lines.{IsLine, Line, RiseFrom, SpellsRefs, SpellsTo, last_from, line_text, refs_text}
@@ -12,10 +12,6 @@ use Rattle.signed_refs.specs.Readings.{BreaksAt, Continues, HasTooMany}
 pub text_more : (lines : List Line) (line : Line) → refs_text (lines ++ line ∷ []) ≡ refs_text lines ++ line_text line
 text_more lines line =
     flat_map-append line_text lines (line ∷ []) ∙ ap (λ (l : List ℕ). refs_text lines ++ l) (append-nil (line_text line))
-
-each_more : (lines : List Line) (line : Line) → AllByRecursion IsLine lines → IsLine line → AllByRecursion IsLine (lines ++ line ∷ [])
-each_more [] line each is = (is, tt)
-each_more (x ∷ lines) line each is = (each.0, each_more lines line each.1 is)
 
 -- a name above the last keeps the order
 pub rise_more : (before : Option (List ℕ)) (lines : List Line) (line : Line) → RiseFrom before lines → IsBelow (last_from before lines) line.0
@@ -31,7 +27,7 @@ spelled_none bytes = record { each = tt; rising = tt; text = refl }
 pub spelled_more : (lines : List Line) (line : Line) (behind rest bytes : List ℕ) → SpellsTo lines rest bytes → Continues lines line behind rest
     → SpellsTo (lines ++ line ∷ []) behind bytes
 spelled_more lines line behind rest bytes s c = record {
-  each = each_more lines line s.each c.good;
+  each = each_more IsLine lines line s.each c.good;
   rising = rise_more None lines line s.rising c.above;
   text =
       s.text ∙ ap (λ (l : List ℕ). refs_text lines ++ l) c.text ∙ sym (append_assoc (refs_text lines) (line_text line) behind)

@@ -2,10 +2,11 @@
 use Rattle.std.specs.Prelude.{◌≡◌, ℕ, ◌≤◌, List, [], ◌∷◌, ◌++◌, length, codes, Option, None, Some}
 use Rattle.std.specs.List.{AllByRecursion, flat_map}
 use Rattle.hex.specs.Hex.{encode_lower}
+use Rattle.rad_base.specs.Lists.{BeginsWith}
 use Rattle.rad_base.specs.Sizes.{IsOid}
 use Rattle.rad_base.specs.declared.names.Oid.{Oid}
 use Rattle.git_object.specs.Grammar.{IsBelow}
-use Rattle.ref_name.specs.Rules.{Begins, KeepsRules}
+use Rattle.ref_name.specs.Rules.{KeepsRules}
 
 -- the name of a ref, and the object that it names
 abbrev pub Line : Type 0
@@ -13,7 +14,7 @@ Line = List ℕ × Oid
 
 -- a ref's name by Git's rules, under `refs/`, and not that of the signed refs themselves
 pub record IsSignedName (name : List ℕ) : Type 0 where
-  pub begins : Begins (codes "refs/") name
+  pub begins : BeginsWith (codes "refs/") name
   pub keeps : KeepsRules name
   pub other : name ≡ codes "refs/rad/sigrefs" → ⊥
 

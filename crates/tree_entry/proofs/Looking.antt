@@ -7,7 +7,7 @@ use Rattle.git_object.specs.Links.{kind_of}
 use Rattle.git_object.specs.Reading.{entries_in}
 use Rattle.git_object.specs.declared.kind.Kind.{Kind}
 use Rattle.git_object.proofs.TreeTexts.{tree_reads}
-use Rattle.commit_graph.proofs.Members.{contains_cases, contains_head, contains_nothing}
+use Rattle.rad_base.proofs.Members.{contains_cases, contains_head, contains_nothing}
 use Rattle.tree_entry.specs.Entries.{IsAmong, IsEntryIn}
 
 -- the entries that are read are those that the bytes spell

@@ -1,10 +1,9 @@
 -- A tree has at most one entry of a name that links to objects of a kind.
 use Rattle.std.proofs.Common.{◌≡◌, ℕ, List, [], ◌∷◌, Option, Some, None, refl, sym, ap, subst, ◌∙◌, ⊎_elim}
 use Rattle.std.specs.Prelude.{Contains}
-use Rattle.std.specs.Ordering.{nat_cmp, ordering_reverse}
+use Rattle.std.specs.Ordering.{nat_cmp}
 use Rattle.std.specs.Cmp.Lexicographic.{slice_cmp}
-use Rattle.std.specs.declared.cmp.Ordering.{Ordering}
-use Rattle.std.specs.declared.cmp.Ordering.TheVariants.{Less, Equal, Greater}
+use Rattle.std.specs.declared.cmp.Ordering.TheVariants.{Less}
 use Rattle.std.proofs.lemmas.Cmp.{nat_list_cmp_total}
 use Rattle.rad_base.specs.declared.names.Oid.{Oid}
 use Rattle.git_object.specs.Grammar.{Commit, Entry, IsRisingFrom, key_of, slash_of}
@@ -17,7 +16,8 @@ use Rattle.git_object.proofs.Commits.{one_commit}
 use Rattle.git_object.proofs.ReadBack.{some_is}
 use Rattle.git_object.proofs.TreeTexts.{one_tree}
 use Rattle.commit_graph.specs.Objects.{Object, ObjectMap}
-use Rattle.commit_graph.proofs.Members.{contains_nothing, contains_cases}
+use Rattle.rad_base.proofs.NameOrder.{not_below_itself}
+use Rattle.rad_base.proofs.Members.{contains_nothing, contains_cases}
 use Rattle.tree_entry.specs.Entries.{HasCommit, HasCommitEntry, HasEntry, IsEntryIn}
 use Rattle.tree_entry.specs.Embedded.{HasEmbedded}
 
@@ -41,15 +41,6 @@ slash_is Gitlink = refl
 one_key : (e f : Entry) → e.name ≡ f.name → kind_of e.mode ≡ kind_of f.mode → key_of e ≡ key_of f
 one_key e f name kind = rw (name, slash_is e.mode, slash_is f.mode, kind) refl
 
-less_itself : (o : Ordering) → o ≡ Less → o ≡ ordering_reverse o → ⊥
-less_itself Less h r = cc r
-less_itself Equal h r = cc h
-less_itself Greater h r = cc h
-
--- no key is below itself
-not_below : (key : List ℕ) → slice_cmp nat_cmp key key ≡ Less → ⊥
-not_below key h = less_itself (slice_cmp nat_cmp key key) h (nat_list_cmp_total.antisymm key key)
-
 -- a key is below those of all later entries
 below_later : (e : Entry) (entries : List Entry) (f : Entry) → IsRisingFrom (Some (key_of e)) entries → Contains entries f
     → slice_cmp nat_cmp (key_of e) (key_of f) ≡ Less
@@ -64,7 +55,7 @@ below_later e (x ∷ entries) f rising h =
 not_later : (e : Entry) (entries : List Entry) (f : Entry) → IsRisingFrom (Some (key_of e)) entries → Contains entries f
     → key_of e ≡ key_of f → ⊥
 not_later e entries f rising h same =
-    not_below (key_of f) (subst (λ (key : List ℕ). slice_cmp nat_cmp key (key_of f) ≡ Less) same (below_later e entries f rising h))
+    not_below_itself (key_of f) (subst (λ (key : List ℕ). slice_cmp nat_cmp key (key_of f) ≡ Less) same (below_later e entries f rising h))
 
 -- entries of one key are one
 one_of_key : (before : Option (List ℕ)) (entries : List Entry) (e f : Entry) → IsRisingFrom before entries → Contains entries e → Contains entries f

@@ -1,7 +1,6 @@
-use Rattle.std.proofs.Common.{◌≡◌, List, sym, ap, subst, ◌∙◌, Some, None}
-use Rattle.std.specs.Prelude.{filter, IfOk}
+use Rattle.std.proofs.Common.{◌≡◌, List, ap, subst, ◌∙◌, Some, None}
+use Rattle.std.specs.Prelude.{filter}
 use Rattle.rad_base.specs.declared.names.Oid.{Oid}
-use Rattle.canonical_head.specs.declared.answer.Head.{Head}
 use Rattle.canonical_head.specs.Divergence.{IsDivergence}
 use Rattle.canonical_head.specs.Least.{IsLeastIn}
 use Rattle.canonical_head.specs.Tables.{candidates_in, is_top}

@@ -1,4 +1,4 @@
-use Rattle.std.proofs.Common.{◌↔◌, sym, ◌∙◌}
+use Rattle.std.proofs.Common.{sym, ◌∙◌}
 use Rattle.canonical_head.proofs.Rows.{rows_known, rows_added}
 use Rattle.canonical_head.proofs.table.add_row.Goals as goal
 

@@ -1,7 +1,7 @@
 use Rattle.std.proofs.Common.{◌≡◌, take, refl, sym, ◌∙◌, arith}
 use Rattle.std.proofs.lemmas.List.{take_all}
 use Rattle.std.proofs.lemmas.Bool.{false≢true}
-use Rattle.commit_graph.proofs.Members.{contains_at}
+use Rattle.rad_base.proofs.Members.{contains_at}
 use Rattle.commit_graph.specs.declared.root.Root.{Root}
 use Rattle.commit_graph.proofs.Adding.{take_grown}
 use Rattle.commit_graph.proofs.HistoryWalks.{history_found, history_none}

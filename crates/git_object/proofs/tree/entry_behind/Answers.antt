@@ -1,10 +1,7 @@
-use Rattle.std.proofs.Common.{Bool, true, false, ◌≡◌}
+use Rattle.rad_base.proofs.Conditions.{differ}
 use Rattle.git_object.specs.Views.{entry_of, last_key}
 use Rattle.git_object.proofs.TreeTexts.{none_above}
 use Rattle.git_object.proofs.tree.entry_behind.Goals as goal
-
-differ : (b : Bool) → b ≡ true → b ≡ false → ⊥
-differ b e f = cc
 
 pub returns-then-not-is_in_order-clause-none : goal.returns-then-not-is_in_order-clause-none
 returns-then-not-is_in_order-clause-none c =

@@ -1,11 +1,9 @@
-use Rattle.std.proofs.Common.{Bool, true, false, ◌≡◌, get_or, map, arith, rules}
+use Rattle.std.proofs.Common.{◌≡◌, get_or, map, arith, rules}
 use Rattle.std.proofs.lemmas.List.{length-map}
+use Rattle.rad_base.proofs.Conditions.{differ}
 use Rattle.git_object.specs.Views.{entry_named, entry_of, last_key}
 use Rattle.git_object.proofs.Written.{first_bad, named_at, written_more}
 use Rattle.git_object.proofs.writing.write_tree.Goals as goal
-
-differ : (b : Bool) → b ≡ true → b ≡ false → ⊥
-differ b e f = cc
 
 pub returns-then-not-is_name-clause-fault : goal.returns-then-not-is_name-clause-fault
 returns-then-not-is_name-clause-fault c =

@@ -1,5 +1,5 @@
 use Rattle.std.proofs.Common.{◌≡◌, length, rules}
-use Rattle.keyring.proofs.Conditions.{differ, is_something}
+use Rattle.rad_base.proofs.Conditions.{differ, is_something}
 use Rattle.identity_doc.specs.SignatureReaders.{MayFollow}
 use Rattle.identity_doc.proofs.SignatureReading.{breaks_order, read_more}
 use Rattle.identity_doc.proofs.signatures.read_signatures.Goals as goal

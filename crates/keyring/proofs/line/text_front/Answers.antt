@@ -1,5 +1,5 @@
 use Rattle.rad_base.proofs.OneFront.{if_none}
-use Rattle.keyring.proofs.Conditions.{differ}
+use Rattle.rad_base.proofs.Conditions.{differ}
 use Rattle.keyring.proofs.LineFronts.{no_stop, no_text}
 use Rattle.keyring.proofs.line.text_front.Goals as goal
 

@@ -1,4 +1,4 @@
-use Rattle.keyring.proofs.Conditions.{differ}
+use Rattle.rad_base.proofs.Conditions.{differ}
 use Rattle.keyring.proofs.Messages.{decoded, spelling}
 use Rattle.keyring.proofs.message.message_of.Goals as goal
 

@@ -1,6 +1,6 @@
 use Rattle.std.proofs.Common.{sym, ◌∙◌}
 use Rattle.keyring.proofs.DirectTexts.{key_behind, more_behind, no_key_behind, no_word_in_front}
-use Rattle.keyring.proofs.Conditions.{is_nothing, is_something}
+use Rattle.rad_base.proofs.Conditions.{is_nothing, is_something}
 use Rattle.keyring.proofs.spelled.spelled_key.Goals as goal
 
 pub returns-in_err-digits : goal.returns-in_err-digits

@@ -3,7 +3,7 @@ use Rattle.rad_node.specs.Parts.{objects, one_of}
 use Rattle.rad_node.specs.Form.{refs_line}
 use Rattle.rad_node.proofs.Chains.{one_signature, one_tip}
 use Rattle.rad_node.proofs.OneForm.{moved}
-use Rattle.rad_node.proofs.OneTree.{differ}
+use Rattle.rad_base.proofs.Conditions.{differ}
 use Rattle.rad_node.proofs.form.form_of.Goals as goal
 
 pub returns-then-keyring-gt-MOST_INPUT-clause-none : goal.returns-then-keyring-gt-MOST_INPUT-clause-none

@@ -1,6 +1,7 @@
 use Rattle.std.proofs.Common.{sym, ◌∙◌}
 use Rattle.rad_node.specs.Form.{IsIdentityChain}
-use Rattle.rad_node.proofs.OneTree.{differ, never, same_oid}
+use Rattle.rad_base.proofs.Conditions.{differ}
+use Rattle.rad_node.proofs.OneTree.{never, same_oid}
 use Rattle.rad_node.proofs.identity.is_chain.Goals as goal
 
 pub returns-then-not-is_named : goal.returns-then-not-is_named

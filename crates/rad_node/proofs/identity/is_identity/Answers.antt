@@ -4,7 +4,8 @@ use Rattle.git_object.specs.declared.kind.Kind.TheVariants.{Blob}
 use Rattle.rad_node.specs.Form.{IsIdentity, document}
 use Rattle.rad_node.specs.Parts.{objects}
 use Rattle.rad_node.proofs.Chains.{identity_facts, identity_found}
-use Rattle.rad_node.proofs.OneTree.{differ, never}
+use Rattle.rad_base.proofs.Conditions.{differ}
+use Rattle.rad_node.proofs.OneTree.{never}
 use Rattle.rad_node.proofs.identity.is_identity.Goals as goal
 
 pub returns-in_default : goal.returns-in_default

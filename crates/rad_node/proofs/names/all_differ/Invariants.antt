@@ -1,6 +1,6 @@
 use Rattle.std.proofs.Common.{length}
 use Rattle.std.specs.Prelude.{◌↔◌}
-use Rattle.rad_node.specs.Orders.{AllDiffer}
+use Rattle.rad_base.specs.Lists.{AllDiffer}
 use Rattle.rad_node.proofs.names.all_differ.Given as goal
 
 abbrev pub invariant-comparing : goal.invariant-comparing

@@ -1,6 +1,7 @@
 use Rattle.std.proofs.Common.{sym, ◌∙◌}
 use Rattle.rad_node.specs.Form.{IsSignedChain}
-use Rattle.rad_node.proofs.OneTree.{differ, never, same_oid}
+use Rattle.rad_base.proofs.Conditions.{differ}
+use Rattle.rad_node.proofs.OneTree.{never, same_oid}
 use Rattle.rad_node.proofs.signed.is_chain.Goals as goal
 
 pub returns-then-signature-ne64 : goal.returns-then-signature-ne64

@@ -1,7 +1,7 @@
 use Rattle.rad_base.proofs.OneFront.{if_none}
 use Rattle.rad_node.specs.Parts.{objects}
 use Rattle.rad_node.proofs.Chains.{no_refs, no_signed, signed_found}
-use Rattle.rad_node.proofs.OneTree.{differ}
+use Rattle.rad_base.proofs.Conditions.{differ}
 use Rattle.rad_node.proofs.signed.signature_of.Goals as goal
 
 pub returns-in_err-commit-clause-none : goal.returns-in_err-commit-clause-none

@@ -2,7 +2,8 @@ use Rattle.std.proofs.Common.{refl}
 use Rattle.git_object.specs.Names.{name}
 use Rattle.git_object.specs.declared.kind.Kind.TheVariants.{Commit}
 use Rattle.rad_node.specs.Form.{IsTipChain}
-use Rattle.rad_node.proofs.OneTree.{differ, never}
+use Rattle.rad_base.proofs.Conditions.{differ}
+use Rattle.rad_node.proofs.OneTree.{never}
 use Rattle.rad_node.proofs.tip.is_chain.Goals as goal
 
 pub returns-then-not-is_root_of : goal.returns-then-not-is_root_of

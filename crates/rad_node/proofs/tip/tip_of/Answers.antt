@@ -1,6 +1,6 @@
 use Rattle.rad_node.specs.Parts.{objects}
 use Rattle.rad_node.proofs.Chains.{no_tip}
-use Rattle.rad_node.proofs.OneTree.{differ}
+use Rattle.rad_base.proofs.Conditions.{differ}
 use Rattle.rad_node.proofs.tip.tip_of.Goals as goal
 
 pub returns-then-not-is_chain-clause-none : goal.returns-then-not-is_chain-clause-none

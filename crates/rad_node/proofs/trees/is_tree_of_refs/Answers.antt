@@ -4,7 +4,8 @@ use Rattle.git_object.specs.Grammar.{SpellsTree}
 use Rattle.git_object.specs.Views.{entry_of}
 use Rattle.git_object.specs.declared.mode.Mode.TheVariants.{File}
 use Rattle.rad_node.specs.Form.{entry}
-use Rattle.rad_node.proofs.OneTree.{differ, from_both, never, same_both}
+use Rattle.rad_base.proofs.Conditions.{differ}
+use Rattle.rad_node.proofs.OneTree.{from_both, never, same_both}
 use Rattle.rad_node.proofs.trees.is_tree_of_refs.Goals as goal
 
 pub returns-then-is_entry : goal.returns-then-is_entry

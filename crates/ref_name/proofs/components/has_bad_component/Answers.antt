@@ -1,7 +1,8 @@
 use Rattle.std.proofs.Common.{[], refl, subst, sym, ⊎_elim}
 use Rattle.std.specs.List.{Any}
 use Rattle.ref_name.specs.Rules.{IsBadComponent, components}
-use Rattle.ref_name.proofs.Parts.{any_cases, any_first, any_nothing, any_rest, differ, one_component, split_at_slash}
+use Rattle.rad_base.proofs.Conditions.{differ}
+use Rattle.ref_name.proofs.Parts.{any_cases, any_first, any_nothing, any_rest, one_component, split_at_slash}
 use Rattle.ref_name.proofs.components.has_bad_component.Goals as goal
 
 pub returns-then-is_bad : goal.returns-then-is_bad

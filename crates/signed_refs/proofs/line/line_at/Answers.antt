@@ -1,5 +1,5 @@
 use Rattle.rad_base.proofs.OneFront.{if_none}
-use Rattle.ref_name.proofs.Parts.{differ}
+use Rattle.rad_base.proofs.Conditions.{differ}
 use Rattle.signed_refs.proofs.OneLine.{no_feed, no_name, no_space}
 use Rattle.signed_refs.proofs.line.line_at.Goals as goal
 

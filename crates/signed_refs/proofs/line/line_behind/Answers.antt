@@ -1,5 +1,5 @@
 use Rattle.std.proofs.Common.{◌∙◌, subst, sym}
-use Rattle.ref_name.proofs.Parts.{differ}
+use Rattle.rad_base.proofs.Conditions.{differ}
 use Rattle.signed_refs.specs.Lines.{IsAbove, Line}
 use Rattle.signed_refs.proofs.OneLine.{one_line}
 use Rattle.signed_refs.proofs.line.line_behind.Goals as goal

@@ -1,6 +1,6 @@
 use Rattle.std.proofs.Common.{◌∙◌}
 use Rattle.std.proofs.lemmas.Result.{err_from_is_err_and}
-use Rattle.ref_name.proofs.Parts.{differ}
+use Rattle.rad_base.proofs.Conditions.{differ}
 use Rattle.signed_refs.proofs.Told.{grafted, is_signed, unaccepted_refuses}
 use Rattle.signed_refs.proofs.signed_commit.signed.Goals as goal
 

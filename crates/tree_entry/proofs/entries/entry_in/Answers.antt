@@ -4,7 +4,7 @@ use Rattle.std.proofs.lemmas.Bool.{false≢true}
 use Rattle.git_object.specs.Grammar.{Entry, SpellsTree}
 use Rattle.git_object.specs.Reading.{entries_in}
 use Rattle.git_object.specs.Views.{entries_of, entry_of}
-use Rattle.commit_graph.proofs.Members.{contains_tail}
+use Rattle.rad_base.proofs.Members.{contains_tail}
 use Rattle.tree_entry.specs.Entries.{IsAmong}
 use Rattle.tree_entry.proofs.Looking.{spelled, behind, not_found}
 use Rattle.tree_entry.proofs.entries.entry_in.Goals as goal

@@ -4,7 +4,7 @@ use Rattle.keyring.specs.Keys.{BreaksAt}
 use Rattle.keyring.specs.Lines.{line_text}
 use Rattle.keyring.specs.Readers.{seen}
 use Rattle.keyring.specs.declared.fault.KeyFault.TheVariants.{BadLine}
-use Rattle.keyring.proofs.Conditions.{is_nothing, is_something}
+use Rattle.rad_base.proofs.Conditions.{is_nothing, is_something}
 use Rattle.keyring.proofs.Files.{breaks_here, breaks_order, one_broken_line, read_all, read_more, read_nothing, read_unbroken}
 use Rattle.keyring.proofs.keyring.Keyring.read.Goals as goal
 
