@@ -5,7 +5,8 @@ ghost use Rattle.commit_graph.specs.Faults.{HasCause};
 ghost use Rattle.commit_graph.specs.Objects.{ObjectMap};
 ghost use Rattle.canonical_head.specs.Heads.{IsHead};
 ghost use Rattle.canonical_head.specs.Divergence.{IsDivergence};
-ghost use Rattle.canonical_head.specs.Tables.{IsTable, votes_in, candidates_in, is_top, is_beside, has_rival, tells};
+ghost use Rattle.canonical_head.specs.Tables.{IsTable, votes_in, candidates_in, is_top, is_beside};
+ghost use Rattle.canonical_head.specs.Tables.{has_rival, tells};
 
 use crate::answer::Head;
 use crate::least::least;
@@ -61,7 +62,8 @@ fn has_rival(table: &Table, candidates: &[Oid], oid: &Oid) -> bool
 
 // The candidates that have all candidates in their history.
 fn tops(alloc: Global, table: &Table, candidates: &[Oid]) -> Result<Vec<Oid>, AllocError>
-    ensures { IfOk result (λ list. list.items ≡ filter (is_top table.now candidates.now) candidates.now) }
+    ensures { IfOk result
+        (λ list. list.items ≡ filter (is_top table.now candidates.now) candidates.now) }
 {
     candidates
         .iter()
@@ -72,7 +74,8 @@ fn tops(alloc: Global, table: &Table, candidates: &[Oid]) -> Result<Vec<Oid>, Al
 
 // The candidates that have another beside them.
 fn rivaled(alloc: Global, table: &Table, candidates: &[Oid]) -> Result<Vec<Oid>, AllocError>
-    ensures { IfOk result (λ list. list.items ≡ filter (has_rival table.now candidates.now) candidates.now) }
+    ensures { IfOk result
+        (λ list. list.items ≡ filter (has_rival table.now candidates.now) candidates.now) }
 {
     candidates
         .iter()
@@ -88,7 +91,8 @@ fn rivals(
     candidates: &[Oid],
     oid: &Oid,
 ) -> Result<Vec<Oid>, AllocError>
-    ensures { IfOk result (λ list. list.items ≡ filter (is_beside table.now oid.now) candidates.now) }
+    ensures { IfOk result
+        (λ list. list.items ≡ filter (is_beside table.now oid.now) candidates.now) }
 {
     candidates
         .iter()
@@ -128,8 +132,8 @@ fn head_by(alloc: Global, table: &Table, tips: &[Oid], threshold: u8) -> Result<
     }
 }
 
-/// The head that enough of the tips agree on. There is one tip for each delegate that has one, which
-/// is closed as a commit; the threshold is the number of votes that make a candidate, from 1.
+/// The head that enough of the tips agree on. There is one tip for each delegate that has one,
+/// which is closed as a commit; the threshold is the number of votes that make a candidate, from 1.
 ///
 /// `NoQuorum` where there is no candidate; `At` the least candidate that has all candidates in its
 /// history; else `Diverging`. It never answers `NoBranch`.
@@ -139,10 +143,12 @@ pub fn head<O: Objects>(
     tips: &[Oid],
     threshold: u8,
 ) -> Result<Head, GetFault>
-    ensures told { ForSome (O.content objects.old) (λ m. IfOk result (IsHead m tips.now threshold)) }
+    ensures told { ForSome (O.content objects.old)
+        (λ m. IfOk result (IsHead m tips.now threshold)) }
     ensures kept { O.content objects.new ≡ O.content objects.old }
     ensures beside { O.beside objects.new ≡ O.beside objects.old }
-    ensures cause { HasCause (O.content objects.old) (O.faults objects.old) (O.faults objects.new) result }
+    ensures cause { HasCause (O.content objects.old) (O.faults objects.old) (O.faults objects.new)
+        result }
 {
     let table = table_of(alloc, objects, tips)?;
     let head = head_by(alloc, &table, tips, threshold)?;

@@ -1,5 +1,6 @@
 // Which tips lie in the histories of which.
-ghost use Rattle.std.specs.Prelude.{◌≡◌, ◌≤◌, ◌++◌, ◌∷◌, [], List, IfOk, OnOk, IsTrue, ◌↔◌, Contains};
+ghost use Rattle.std.specs.Prelude.{◌≡◌, ◌≤◌, ◌++◌, ◌∷◌, [], List, IfOk, OnOk, IsTrue, ◌↔◌};
+ghost use Rattle.std.specs.Prelude.{Contains};
 ghost use Rattle.std.specs.Option.{ForSome};
 ghost use Rattle.std.specs.BTreeSet.{contains};
 ghost use Rattle.rad_base.specs.Order.{oid_cmp};
@@ -32,7 +33,8 @@ impl Table {
 
 // Those of the tips that are commits of the history.
 fn row(alloc: Global, history: &History, tips: &[Oid]) -> Result<BTreeSet<Oid>, AllocError>
-    ensures { IfOk result (λ row. (old : Oid) → Contains tips.now old → IsTrue (contains oid_cmp row old) ↔ HasCommit history.now.found old) }
+    ensures { IfOk result (λ row. (old : Oid) → Contains tips.now old
+        → IsTrue (contains oid_cmp row old) ↔ HasCommit history.now.found old) }
 {
     let mut row = BTreeSet::new(alloc);
     for tip in tips {
@@ -51,10 +53,12 @@ fn add_row<O: Objects>(
     rows: &mut BTreeMap<Oid, BTreeSet<Oid>>,
     tip: &Oid,
 ) -> Result<(), GetFault>
-    ensures told { ForSome (O.content objects.old) (λ m. OnOk result ((news : List Oid) → AreRows m tips.now news rows.old → AreRows m tips.now (news ++ tip.now ∷ []) rows.new)) }
+    ensures told { ForSome (O.content objects.old) (λ m. OnOk result ((news : List Oid)
+        → AreRows m tips.now news rows.old → AreRows m tips.now (news ++ tip.now ∷ []) rows.new)) }
     ensures kept { O.content objects.new ≡ O.content objects.old }
     ensures beside { O.beside objects.new ≡ O.beside objects.old }
-    ensures cause { HasCause (O.content objects.old) (O.faults objects.old) (O.faults objects.new) result }
+    ensures cause { HasCause (O.content objects.old) (O.faults objects.old) (O.faults objects.new)
+        result }
 {
     if rows.contains_key(tip) {
         return Ok(());
@@ -74,7 +78,8 @@ pub(crate) fn table_of<O: Objects>(
     ensures told { ForSome (O.content objects.old) (λ m. IfOk result (IsTable m tips.now)) }
     ensures kept { O.content objects.new ≡ O.content objects.old }
     ensures beside { O.beside objects.new ≡ O.beside objects.old }
-    ensures cause { HasCause (O.content objects.old) (O.faults objects.old) (O.faults objects.new) result }
+    ensures cause { HasCause (O.content objects.old) (O.faults objects.old) (O.faults objects.new)
+        result }
 {
     let mut rows = BTreeMap::new(alloc);
     for tip in tips {

@@ -1,11 +1,13 @@
 // A closure that does not walk again what is known to be closed.
-ghost use Rattle.std.specs.Prelude.{◌≡◌, ◌≤◌, ◌+◌, ◌*◌, ◌++◌, ◌↔◌, ◌⊎◌, List, length, map, sum_by, Contains, IsTrue, IfOk, OnOk};
+ghost use Rattle.std.specs.Prelude.{◌≡◌, ◌≤◌, ◌+◌, ◌*◌, ◌++◌, ◌↔◌, ◌⊎◌, List, length, map, sum_by};
+ghost use Rattle.std.specs.Prelude.{Contains, IsTrue, IfOk, OnOk};
 ghost use Rattle.std.specs.Option.{ForSome};
 ghost use Rattle.commit_graph.specs.Faults.{HasCause};
 ghost use Rattle.commit_graph.specs.Pairs.{pair_of};
 ghost use Rattle.commit_graph.specs.Walks.{Reached};
 ghost use Rattle.commit_graph.specs.Closures.{IsClosure};
-ghost use Rattle.commit_graph.specs.Beyond.{AllClosed, IsLinkBeyond, CoversBeyond, CoversFitBeyond, link_count, GrowsBeyond, Leaves};
+ghost use Rattle.commit_graph.specs.Beyond.{AllClosed, IsLinkBeyond, CoversBeyond, CoversFitBeyond};
+ghost use Rattle.commit_graph.specs.Beyond.{link_count, GrowsBeyond, Leaves};
 ghost use Rattle.commit_graph.specs.Facts.{IsAccepted, IsMet};
 
 use crate::answer::Closure;
@@ -24,10 +26,12 @@ use std::sync::ledger::Ledger;
 
 // Whether a pair has an object, of the expected kind.
 fn is_accepted<O: Objects>(objects: &mut O, pair: Root) -> Result<bool, GetFault>
-    ensures told { ForSome (O.content objects.old) (λ m. IfOk result (λ is. IsTrue is ↔ IsAccepted m pair)) }
+    ensures told { ForSome (O.content objects.old)
+        (λ m. IfOk result (λ is. IsTrue is ↔ IsAccepted m pair)) }
     ensures kept { O.content objects.new ≡ O.content objects.old }
     ensures beside { O.beside objects.new ≡ O.beside objects.old }
-    ensures cause { HasCause (O.content objects.old) (O.faults objects.old) (O.faults objects.new) result }
+    ensures cause { HasCause (O.content objects.old) (O.faults objects.old) (O.faults objects.new)
+        result }
 {
     match objects.get(&pair.oid) {
         Err(fault) => Err(fault),
@@ -50,7 +54,8 @@ fn meet<O: Objects, L: Ledger>(
         (λ looked. IsMet m known.now pair facts.old facts.new looked steps.old steps.new)) }
     ensures kept { O.content objects.new ≡ O.content objects.old }
     ensures beside { O.beside objects.new ≡ O.beside objects.old }
-    ensures cause { HasCause (O.content objects.old) (O.faults objects.old) (O.faults objects.new) result }
+    ensures cause { HasCause (O.content objects.old) (O.faults objects.old) (O.faults objects.new)
+        result }
     ensures cost { steps.new ≤ steps.old + 2 }
     ensures counted { steps.old ≤ steps.new }
 {
@@ -99,7 +104,8 @@ fn search<O: Objects, L: Ledger>(
     steps: &mut Steps<L>,
 ) -> Result<Searched, GetFault>
     requires { ForSome (O.content objects.old) (λ m. AllClosed m known.now) }
-    ensures told { ForSome (O.content objects.old) (λ m. IfOk result (λ s. IsClosure m roots.now s.answer)) }
+    ensures told { ForSome (O.content objects.old)
+        (λ m. IfOk result (λ s. IsClosure m roots.now s.answer)) }
     ensures reach { ForSome (O.content objects.old) (λ m. IfOk result (λ s. (pair : Root)
         → Contains s.pairs.items pair ↔ Reached (IsLinkBeyond m known.now) roots.now pair)) }
     ensures cost { ForSome (O.content objects.old) (λ m. (names fit : List Oid)
@@ -107,7 +113,8 @@ fn search<O: Objects, L: Ledger>(
         → steps.new ≤ steps.old + length names + sum_by (link_count m) fit + 2 * length roots.now) }
     ensures kept { O.content objects.new ≡ O.content objects.old }
     ensures beside { O.beside objects.new ≡ O.beside objects.old }
-    ensures cause { HasCause (O.content objects.old) (O.faults objects.old) (O.faults objects.new) result }
+    ensures cause { HasCause (O.content objects.old) (O.faults objects.old) (O.faults objects.new)
+        result }
 {
     let mut facts = Facts::new(alloc);
     let mut queue = Vec::from_slice(alloc, roots)?;
@@ -136,10 +143,10 @@ fn search<O: Objects, L: Ledger>(
 /// At `Closed` the names that a walk from the roots reaches over no known name are known too; after
 /// want of memory some of them may be; after any other answer the known names are as before.
 ///
-/// A step is one look-up of an object or one test of a link, which at a known name includes the look
-/// at its object's kind. Where the objects are told there are at most as many as the names that are
-/// so reached and were not known, and the links of those of them whose objects are as expected and
-/// well formed, and twice the roots.
+/// A step is one look-up of an object or one test of a link, which at a known name includes the
+/// look at its object's kind. Where the objects are told there are at most as many as the names
+/// that are so reached and were not known, and the links of those of them whose objects are as
+/// expected and well formed, and twice the roots.
 pub fn closure_beyond<O: Objects, L: Ledger>(
     alloc: Global,
     objects: &mut O,
@@ -149,7 +156,8 @@ pub fn closure_beyond<O: Objects, L: Ledger>(
 ) -> Result<Closure, GetFault>
     requires { ForSome (O.content objects.old) (λ m. AllClosed m known.old) }
     ensures told { ForSome (O.content objects.old) (λ m. IfOk result (IsClosure m roots.now)) }
-    ensures grown { ForSome (O.content objects.old) (λ m. IfOk result (GrowsBeyond m known.old roots.now known.new)) }
+    ensures grown { ForSome (O.content objects.old)
+        (λ m. IfOk result (GrowsBeyond m known.old roots.now known.new)) }
     ensures left { Leaves result known.old known.new }
     ensures closed { ForSome (O.content objects.old) (λ m. AllClosed m known.new) }
     ensures cost { ForSome (O.content objects.old) (λ m. (names fit : List Oid)
@@ -157,7 +165,8 @@ pub fn closure_beyond<O: Objects, L: Ledger>(
         → steps.new ≤ steps.old + length names + sum_by (link_count m) fit + 2 * length roots.now) }
     ensures kept { O.content objects.new ≡ O.content objects.old }
     ensures beside { O.beside objects.new ≡ O.beside objects.old }
-    ensures cause { HasCause (O.content objects.old) (O.faults objects.old) (O.faults objects.new) result }
+    ensures cause { HasCause (O.content objects.old) (O.faults objects.old) (O.faults objects.new)
+        result }
 {
     let found = search(alloc, objects, known, roots, steps)?;
     if let Closure::Closed = found.answer {

@@ -4,7 +4,8 @@ ghost use Rattle.std.specs.Option.{ForSome};
 ghost use Rattle.commit_graph.specs.Faults.{HasCause};
 ghost use Rattle.commit_graph.specs.Pairs.{as_commit, oid_of};
 ghost use Rattle.commit_graph.specs.Closures.{IsClosed};
-ghost use Rattle.commit_graph.specs.Chains.{parents_in, HasParents, IsChain, IsChainFault, HasGetCause};
+ghost use Rattle.commit_graph.specs.Chains.{parents_in, HasParents, IsChain, IsChainFault};
+ghost use Rattle.commit_graph.specs.Chains.{HasGetCause};
 
 use crate::answer::Chain;
 use crate::look::{Looked, look};
@@ -67,7 +68,8 @@ fn parents_at<O: Objects>(alloc: Global, objects: &mut O, oid: Oid) -> Result<Ve
         → HasParents m oid each → each ≡ parents.items)) }
     ensures kept { O.content objects.new ≡ O.content objects.old }
     ensures beside { O.beside objects.new ≡ O.beside objects.old }
-    ensures cause { HasCause (O.content objects.old) (O.faults objects.old) (O.faults objects.new) result }
+    ensures cause { HasCause (O.content objects.old) (O.faults objects.old) (O.faults objects.new)
+        result }
 {
     match look(alloc, objects, commit(oid))? {
         Looked::Fit(links) => Ok(parents_among(alloc, links.as_slice())?),
@@ -86,11 +88,13 @@ fn names_back(alloc: Global, pairs: &[Root]) -> Result<Vec<Oid>, AllocError>
 /// before as its only parent. The tip is closed as a commit.
 pub fn chain<O: Objects>(alloc: Global, objects: &mut O, tip: &Oid) -> Result<Chain, ChainFault>
     requires { ForSome (O.content objects.old) (λ m. IsClosed m (as_commit tip.now ∷ [])) }
-    ensures told { ForSome (O.content objects.old) (λ m. IfOk result (λ chain. IsChain m chain tip.now)) }
+    ensures told { ForSome (O.content objects.old)
+        (λ m. IfOk result (λ chain. IsChain m chain tip.now)) }
     ensures refused { ForSome (O.content objects.old) (λ m. IfErr result (IsChainFault m tip.now)) }
     ensures kept { O.content objects.new ≡ O.content objects.old }
     ensures beside { O.beside objects.new ≡ O.beside objects.old }
-    ensures cause { HasGetCause (O.content objects.old) (O.faults objects.old) (O.faults objects.new) result }
+    ensures cause { HasGetCause (O.content objects.old) (O.faults objects.old)
+        (O.faults objects.new) result }
 {
     let mut line = Visited::new(alloc);
     let mut oid = *tip;

@@ -48,7 +48,8 @@ pub fn closure<O: Objects>(
     ensures told { ForSome (O.content objects.old) (λ m. IfOk result (IsClosure m roots.now)) }
     ensures kept { O.content objects.new ≡ O.content objects.old }
     ensures beside { O.beside objects.new ≡ O.beside objects.old }
-    ensures cause { HasCause (O.content objects.old) (O.faults objects.old) (O.faults objects.new) result }
+    ensures cause { HasCause (O.content objects.old) (O.faults objects.old) (O.faults objects.new)
+        result }
 {
     let mut found = Visited::new(alloc);
     found.extend(roots)?;

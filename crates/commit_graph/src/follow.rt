@@ -22,7 +22,8 @@ pub(crate) fn follow_links<O: Objects>(
         (λ m. OnOk result (Follows (IsLink m) pair found.old found.new)) }
     ensures kept { O.content objects.new ≡ O.content objects.old }
     ensures beside { O.beside objects.new ≡ O.beside objects.old }
-    ensures cause { HasCause (O.content objects.old) (O.faults objects.old) (O.faults objects.new) result }
+    ensures cause { HasCause (O.content objects.old) (O.faults objects.old) (O.faults objects.new)
+        result }
 {
     match look(alloc, objects, pair)? {
         Looked::Fit(links) => Ok(found.follow(links.as_slice())?),
@@ -41,7 +42,8 @@ pub(crate) fn follow_parents<O: Objects>(
         (λ m. OnOk result (Follows (IsParent m) pair found.old found.new)) }
     ensures kept { O.content objects.new ≡ O.content objects.old }
     ensures beside { O.beside objects.new ≡ O.beside objects.old }
-    ensures cause { HasCause (O.content objects.old) (O.faults objects.old) (O.faults objects.new) result }
+    ensures cause { HasCause (O.content objects.old) (O.faults objects.old) (O.faults objects.new)
+        result }
 {
     match look(alloc, objects, pair)? {
         Looked::Fit(links) => Ok(found.follow_commits(links.as_slice())?),

@@ -27,7 +27,8 @@ pub(crate) fn hold(
     ensures name { IfOk result (λ oid. oid ≡ name kind bytes.now) }
     ensures added { IfOk result
         (λ oid. AddsObject (content_of held.old) oid (kind, bytes.now) (content_of held.new)) }
-    ensures refused { OnErr result ((oid : Oid) → content_of held.new oid ≡ content_of held.old oid) }
+    ensures refused { OnErr result
+        ((oid : Oid) → content_of held.new oid ≡ content_of held.old oid) }
 {
     let oid = name_of(kind, bytes);
     if held.contains_key(&oid) {

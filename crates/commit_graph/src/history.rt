@@ -23,7 +23,8 @@ pub fn in_history<O: Objects>(
         ↔ InHistory m old.now new.now)) }
     ensures kept { O.content objects.new ≡ O.content objects.old }
     ensures beside { O.beside objects.new ≡ O.beside objects.old }
-    ensures cause { HasCause (O.content objects.old) (O.faults objects.old) (O.faults objects.new) result }
+    ensures cause { HasCause (O.content objects.old) (O.faults objects.old) (O.faults objects.new)
+        result }
 {
     let mut found = Visited::new(alloc);
     found.add(commit(*new))?;
@@ -64,7 +65,8 @@ pub fn history_of<O: Objects>(
         → HasCommit history.found old ↔ InHistory m old new.now)) }
     ensures kept { O.content objects.new ≡ O.content objects.old }
     ensures beside { O.beside objects.new ≡ O.beside objects.old }
-    ensures cause { HasCause (O.content objects.old) (O.faults objects.old) (O.faults objects.new) result }
+    ensures cause { HasCause (O.content objects.old) (O.faults objects.old) (O.faults objects.new)
+        result }
 {
     let mut found = Visited::new(alloc);
     found.add(commit(*new))?;

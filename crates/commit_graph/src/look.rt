@@ -38,7 +38,8 @@ pub(crate) fn look<O: Objects>(
     ensures told { ForSome (O.content objects.old) (λ m. IfOk result (Shows m pair)) }
     ensures kept { O.content objects.new ≡ O.content objects.old }
     ensures beside { O.beside objects.new ≡ O.beside objects.old }
-    ensures cause { HasCause (O.content objects.old) (O.faults objects.old) (O.faults objects.new) result }
+    ensures cause { HasCause (O.content objects.old) (O.faults objects.old) (O.faults objects.new)
+        result }
 {
     match objects.get(&pair.oid) {
         Err(fault) => Err(fault),

@@ -36,7 +36,8 @@ impl MemObjects {
         ensures name { IfOk result (λ oid. oid ≡ name kind bytes.now) }
         ensures added { IfOk result
             (λ oid. AddsObject (objects_of self.old) oid (kind, bytes.now) (objects_of self.new)) }
-        ensures refused { OnErr result ((oid : Oid) → objects_of self.new oid ≡ objects_of self.old oid) }
+        ensures refused { OnErr result
+            ((oid : Oid) → objects_of self.new oid ≡ objects_of self.old oid) }
     {
         hold(&mut self.held, alloc, kind, bytes)
     }

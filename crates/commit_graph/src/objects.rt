@@ -29,7 +29,8 @@ pub trait Objects {
     /// count of faults rose; `Changed` only where the bytes read back have another name than the
     /// one asked for, and never where the objects are told.
     fn get(&mut self, oid: &Oid) -> Result<Option<(Kind, &[u8])>, GetFault>
-        ensures found { ForSome (content self.old) (λ m. IfOk result (λ found. shown found ≡ m oid.now)) }
+        ensures found { ForSome (content self.old)
+            (λ m. IfOk result (λ found. shown found ≡ m oid.now)) }
         ensures asked { IfErr result (λ fault. (change : Changed) → fault ≡ GetFault.Changed change
             → change.name ≡ oid.now) }
         ensures* kept { sem 𝓛 (Rests Self.row self.entry (λ new. (content new ≡ content self.old)

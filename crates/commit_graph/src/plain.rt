@@ -1,5 +1,6 @@
 // A plain and slow closure, over lists without marks.
-ghost use Rattle.std.specs.Prelude.{◌≡◌, ◌<◌, ◌↔◌, IfOk, OnOk, Some, Contains, length, slice_get, map};
+ghost use Rattle.std.specs.Prelude.{◌≡◌, ◌<◌, ◌↔◌, IfOk, OnOk, Some, Contains, length, slice_get};
+ghost use Rattle.std.specs.Prelude.{map};
 ghost use Rattle.std.specs.Option.{ForSome};
 ghost use Rattle.commit_graph.specs.Faults.{HasCause};
 ghost use Rattle.commit_graph.specs.Lists.{Adds, Extends, Follows};
@@ -45,7 +46,8 @@ fn add_links_of<O: Objects>(
         (λ m. OnOk result (Follows (IsLink m) pair list.old.items list.new.items)) }
     ensures kept { O.content objects.new ≡ O.content objects.old }
     ensures beside { O.beside objects.new ≡ O.beside objects.old }
-    ensures cause { HasCause (O.content objects.old) (O.faults objects.old) (O.faults objects.new) result }
+    ensures cause { HasCause (O.content objects.old) (O.faults objects.old) (O.faults objects.new)
+        result }
 {
     match look(alloc, objects, pair)? {
         Looked::Fit(links) => Ok(add_links(list, links.as_slice())?),
@@ -70,7 +72,8 @@ fn reached_pairs<O: Objects>(
         → Contains list.items pair ↔ IsReached m roots.now pair)) }
     ensures kept { O.content objects.new ≡ O.content objects.old }
     ensures beside { O.beside objects.new ≡ O.beside objects.old }
-    ensures cause { HasCause (O.content objects.old) (O.faults objects.old) (O.faults objects.new) result }
+    ensures cause { HasCause (O.content objects.old) (O.faults objects.old) (O.faults objects.new)
+        result }
 {
     let mut list = Vec::from_slice(alloc, roots)?;
     let mut i = 0;
@@ -92,7 +95,8 @@ pub fn closure_by_lists<O: Objects>(
     ensures told { ForSome (O.content objects.old) (λ m. IfOk result (IsClosure m roots.now)) }
     ensures kept { O.content objects.new ≡ O.content objects.old }
     ensures beside { O.beside objects.new ≡ O.beside objects.old }
-    ensures cause { HasCause (O.content objects.old) (O.faults objects.old) (O.faults objects.new) result }
+    ensures cause { HasCause (O.content objects.old) (O.faults objects.old) (O.faults objects.new)
+        result }
 {
     let pairs = reached_pairs(alloc, objects, roots)?;
     let mut missing = None;

@@ -20,7 +20,8 @@ fn walk<O: Objects>(alloc: Global, objects: &mut O, roots: &[Root]) -> Result<Vi
         → Contains found pair ↔ IsReached m roots.now pair)) }
     ensures kept { O.content objects.new ≡ O.content objects.old }
     ensures beside { O.beside objects.new ≡ O.beside objects.old }
-    ensures cause { HasCause (O.content objects.old) (O.faults objects.old) (O.faults objects.new) result }
+    ensures cause { HasCause (O.content objects.old) (O.faults objects.old) (O.faults objects.new)
+        result }
 {
     let mut found = Visited::new(alloc);
     found.extend(roots)?;
@@ -59,7 +60,8 @@ fn keys_of(alloc: Global, names: &BTreeSet<Oid>) -> Result<Vec<Oid>, AllocError>
 // The names of the pairs, rising.
 fn names_of(alloc: Global, pairs: &[Root]) -> Result<Vec<Oid>, AllocError>
     ensures rising { IfOk result (λ list. IsStrictlySortedBy oid_cmp list.items) }
-    ensures names { IfOk result (λ list. (oid : Oid) → Contains list.items oid ↔ HasName pairs.now oid) }
+    ensures names { IfOk result
+        (λ list. (oid : Oid) → Contains list.items oid ↔ HasName pairs.now oid) }
 {
     let mut names = BTreeSet::new(alloc);
     add_names(&mut names, pairs)?;
@@ -70,11 +72,13 @@ fn names_of(alloc: Global, pairs: &[Root]) -> Result<Vec<Oid>, AllocError>
 /// The names that are reached from the roots, rising, each once, also those without an object.
 pub fn reached<O: Objects>(alloc: Global, objects: &mut O, roots: &[Root]) -> Result<Oids, GetFault>
     ensures rising { IfOk result (IsStrictlySortedBy oid_cmp) }
-    ensures told { ForSome (O.content objects.old) (λ m. IfOk result (λ names. (oid : Oid) → Contains names oid
+    ensures told { ForSome (O.content objects.old)
+        (λ m. IfOk result (λ names. (oid : Oid) → Contains names oid
         ↔ IsReachedName m roots.now oid)) }
     ensures kept { O.content objects.new ≡ O.content objects.old }
     ensures beside { O.beside objects.new ≡ O.beside objects.old }
-    ensures cause { HasCause (O.content objects.old) (O.faults objects.old) (O.faults objects.new) result }
+    ensures cause { HasCause (O.content objects.old) (O.faults objects.old) (O.faults objects.new)
+        result }
 {
     let found = walk(alloc, objects, roots)?;
     let names = names_of(alloc, found.as_slice())?;

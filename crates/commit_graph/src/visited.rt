@@ -1,5 +1,6 @@
 // The pairs that a walk has come to, each once, in the order of coming.
-ghost use Rattle.std.specs.Prelude.{◌≡◌, ◌<◌, ◌^◌, [], length, slice_get, OnOk, OnErr, Some, IsTrue, ◌↔◌, Contains, map, filter};
+ghost use Rattle.std.specs.Prelude.{◌≡◌, ◌<◌, ◌^◌, [], length, slice_get, OnOk, OnErr, Some};
+ghost use Rattle.std.specs.Prelude.{IsTrue, ◌↔◌, Contains, map, filter};
 ghost use Rattle.commit_graph.specs.Lists.{Adds, Extends};
 ghost use Rattle.commit_graph.specs.Pairs.{pair_of, is_commit_link};
 
@@ -92,7 +93,8 @@ impl Visited {
 
     /// Adds those of the links to commits that are not there yet, in order.
     pub(crate) fn follow_commits(&mut self, links: &[LinkTo]) -> Result<(), AllocError>
-        ensures { OnOk result (Extends self.old (map pair_of (filter is_commit_link links.now)) self.new) }
+        ensures { OnOk result
+            (Extends self.old (map pair_of (filter is_commit_link links.now)) self.new) }
     {
         for link in links {
             if is_commit_link(*link) {

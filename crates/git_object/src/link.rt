@@ -104,10 +104,10 @@ fn tag_links(alloc: Global, bytes: &[u8]) -> Result<Vec<LinkTo>, LinksFault>
     Ok(found)
 }
 
-/// What the object of this kind with these bytes links to, in the order of the bytes: of a tree each
-/// entry but a gitlink; of a commit the tree and then each parent; of a tag the object that it is
-/// put on; of a blob nothing. Bad exactly where the bytes are not those of the kind, with the place
-/// as the reader tells it.
+/// What the object of this kind with these bytes links to, in the order of the bytes: of a tree
+/// each entry but a gitlink; of a commit the tree and then each parent; of a tag the object that it
+/// is put on; of a blob nothing. Bad exactly where the bytes are not those of the kind, with the
+/// place as the reader tells it.
 pub fn links(alloc: Global, kind: Kind, bytes: &[u8]) -> Result<Vec<LinkTo>, LinksFault>
     ensures found { IfOk result (λ found. found.items ≡ links kind bytes.now) }
     ensures well_formed { IfOk result (λ _. IsWellFormed kind bytes.now) }

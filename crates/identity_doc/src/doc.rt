@@ -37,8 +37,8 @@ impl Doc {
     /// 1. `delegates` is there and an array, else `NoField(Delegates)`; a value that is no object
     ///    lacks every member.
     /// 2. It has 1 to 255 elements, else `BadCount` with their number.
-    /// 3. Each element, from 0, is a text that has a key, else `BadDelegate` with its number; and no
-    ///    element before it has this key, else `Twice` with its number.
+    /// 3. Each element, from 0, is a text that has a key, else `BadDelegate` with its number; and
+    ///    no element before it has this key, else `Twice` with its number.
     /// 4. `threshold` is there and a number, else `NoField(Threshold)`.
     /// 5. It is an integer from 1 to the number of delegates, else `BadThreshold`.
     /// 6. `payload` is there and an object, else `NoField(Payload)`.

@@ -16,7 +16,8 @@ pub fn after<'a>(bytes: &'a [u8], word: &[u8]) -> Option<&'a [u8]>
 
 /// What stands before the first byte `stop`, and what stands behind it. None where there is none.
 pub fn until(bytes: &[u8], stop: u8) -> Option<(&[u8], &[u8])>
-    ensures found { IfSome result (λ x. Lacks stop x.0.now × (bytes.now ≡ x.0.now ++ stop ∷ x.1.now)) }
+    ensures found { IfSome result
+        (λ x. Lacks stop x.0.now × (bytes.now ≡ x.0.now ++ stop ∷ x.1.now)) }
     ensures none { IfNone result (Lacks stop bytes.now) }
 {
     for (at, byte) in bytes.iter().enumerate() {
@@ -66,7 +67,8 @@ pub fn sig_front(bytes: &[u8]) -> Option<(Sig, &[u8])>
 /// they spell none.
 pub fn oid_text_front(bytes: &[u8]) -> Option<(Oid, &[u8])>
     ensures found { IfSome result (λ x. IsOid x.0 × (bytes.now ≡ encode_lower x.0.0 ++ x.1.now)) }
-    ensures none { IfNone result ((oid : Oid) (rest : List ℕ) → IsOid oid → bytes.now ≡ encode_lower oid.0 ++ rest → ⊥) }
+    ensures none { IfNone result
+        ((oid : Oid) (rest : List ℕ) → IsOid oid → bytes.now ≡ encode_lower oid.0 ++ rest → ⊥) }
 {
     let (digits, rest) = bytes.split_first_chunk::<40>()?;
     let oid = parse_oid(digits)?;
@@ -77,7 +79,8 @@ pub fn oid_text_front(bytes: &[u8]) -> Option<(Oid, &[u8])>
 /// spell none.
 pub fn nid_text_front(bytes: &[u8]) -> Option<(Nid, &[u8])>
     ensures found { IfSome result (λ x. IsNid x.0 × (bytes.now ≡ encode_lower x.0.0 ++ x.1.now)) }
-    ensures none { IfNone result ((nid : Nid) (rest : List ℕ) → IsNid nid → bytes.now ≡ encode_lower nid.0 ++ rest → ⊥) }
+    ensures none { IfNone result
+        ((nid : Nid) (rest : List ℕ) → IsNid nid → bytes.now ≡ encode_lower nid.0 ++ rest → ⊥) }
 {
     let (digits, rest) = bytes.split_first_chunk::<64>()?;
     let nid = parse_nid(digits)?;
@@ -88,7 +91,8 @@ pub fn nid_text_front(bytes: &[u8]) -> Option<(Nid, &[u8])>
 /// spell none.
 pub fn sig_text_front(bytes: &[u8]) -> Option<(Sig, &[u8])>
     ensures found { IfSome result (λ x. IsSig x.0 × (bytes.now ≡ encode_lower x.0.0 ++ x.1.now)) }
-    ensures none { IfNone result ((sig : Sig) (rest : List ℕ) → IsSig sig → bytes.now ≡ encode_lower sig.0 ++ rest → ⊥) }
+    ensures none { IfNone result
+        ((sig : Sig) (rest : List ℕ) → IsSig sig → bytes.now ≡ encode_lower sig.0 ++ rest → ⊥) }
 {
     let (digits, rest) = bytes.split_first_chunk::<128>()?;
     let sig = parse_sig(digits)?;

@@ -1,6 +1,8 @@
 // Integers in one to eight bytes, as RFC 9000 section 16 has them.
-ghost use Rattle.std.specs.Prelude.{◌≡◌, ◌/◌, ◌^◌, ◌<◌, drop, if◌then◌else◌, length, nat_lt, slice_index, take};
-ghost use Rattle.rad_base.specs.Varint.{NoVarintBeginsAnother, ReadsVarint, VarintReadsBack, varint};
+ghost use Rattle.std.specs.Prelude.{◌≡◌, ◌/◌, ◌^◌, ◌<◌, drop, if◌then◌else◌, length, nat_lt};
+ghost use Rattle.std.specs.Prelude.{slice_index, take};
+ghost use Rattle.rad_base.specs.Varint.{NoVarintBeginsAnother, ReadsVarint, VarintReadsBack};
+ghost use Rattle.rad_base.specs.Varint.{varint};
 
 /// What reading an integer answers.
 #[derive(Clone, Copy, Debug, PartialEq, Eq)]
@@ -60,8 +62,8 @@ fn read_eight(bytes: &[u8]) -> Varint
     if_shortest(number, 1 << 30, 8)
 }
 
-/// The number at the front of the bytes, in the shortest spelling alone. The two highest bits of the
-/// first byte say how many bytes it has.
+/// The number at the front of the bytes, in the shortest spelling alone. The two highest bits of
+/// the first byte say how many bytes it has.
 pub fn read_varint(bytes: &[u8]) -> Varint
     ensures { ReadsVarint bytes.now result }
 {

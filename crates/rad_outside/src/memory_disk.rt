@@ -1,9 +1,11 @@
 // A disk in memory, whose calls fail where a list says so. It keeps every call.
-ghost use Rattle.std.specs.Prelude.{◌≡◌, ◌≤◌, ◌↔◌, Some, false, length, IsTrue, IsOk, IfOk, OnOk, OnErr};
+ghost use Rattle.std.specs.Prelude.{◌≡◌, ◌≤◌, ◌↔◌, Some, false, length, IsTrue, IsOk, IfOk, OnOk};
+ghost use Rattle.std.specs.Prelude.{OnErr};
 ghost use Rattle.std.specs.Io.{ReadsAtMost};
 ghost use Rattle.rad_outside.specs.Causes.{HasCause};
 ghost use Rattle.rad_outside.specs.FailingCalls.{FailsNext, HadCall};
-ghost use Rattle.rad_outside.specs.Disks.{Changes, Elapses, Follows, Only, ReadsAt, Torn, Within, Writes};
+ghost use Rattle.rad_outside.specs.Disks.{Changes, Elapses, Follows, Only, ReadsAt, Torn, Within};
+ghost use Rattle.rad_outside.specs.Disks.{Writes};
 ghost use Rattle.rad_outside.specs.MemoryDisk.{IsImage};
 ghost use Rattle.rad_outside.specs.MemoryDiskLaws.{reads_is_image};
 ghost use Rattle.rad_outside.specs.MemoryDiskClock.{since_counts_now, since_only_now};
@@ -96,7 +98,8 @@ impl Disk for MemDisk {
     fn size(&mut self) -> Result<u64, Failed>
         ensures value { IfOk result (λ n. n ≡ length (state_of self.old.log).reads) }
         ensures same { (state_of self.new.log).reads ≡ (state_of self.old.log).reads }
-        ensures images { Within (IsImage (state_of self.new.log)) (IsImage (state_of self.old.log)) }
+        ensures images { Within (IsImage (state_of self.new.log))
+            (IsImage (state_of self.old.log)) }
         ensures cause { HasCause self.old.faults self.new.faults result }
         ensures time { Elapses (moment_of self.old.log) (moment_of self.new.log)
             (since_of self.old.log) (since_of self.new.log) (IsImage (state_of self.new.log)) }
@@ -112,7 +115,8 @@ impl Disk for MemDisk {
         ensures bound { ReadsAtMost result into.new }
         ensures value { IfOk result (ReadsAt (state_of self.old.log).reads place into.new) }
         ensures same { (state_of self.new.log).reads ≡ (state_of self.old.log).reads }
-        ensures images { Within (IsImage (state_of self.new.log)) (IsImage (state_of self.old.log)) }
+        ensures images { Within (IsImage (state_of self.new.log))
+            (IsImage (state_of self.old.log)) }
         ensures cause { HasCause self.old.faults self.new.faults result }
         ensures time { Elapses (moment_of self.old.log) (moment_of self.new.log)
             (since_of self.old.log) (since_of self.new.log) (IsImage (state_of self.new.log)) }
@@ -148,7 +152,8 @@ impl Disk for MemDisk {
         ensures durable { OnOk result
             (Only (state_of self.old.log).reads (IsImage (state_of self.new.log))) }
         ensures same { (state_of self.new.log).reads ≡ (state_of self.old.log).reads }
-        ensures images { Within (IsImage (state_of self.new.log)) (IsImage (state_of self.old.log)) }
+        ensures images { Within (IsImage (state_of self.new.log))
+            (IsImage (state_of self.old.log)) }
         ensures cause { HasCause self.old.faults self.new.faults result }
         ensures time { Elapses (moment_of self.old.log) (moment_of self.new.log)
             (since_of self.old.log) (since_of self.new.log) (IsImage (state_of self.new.log)) }

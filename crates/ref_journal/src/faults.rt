@@ -1,7 +1,10 @@
 // Why a call of a journal is refused.
 ghost use Rattle.std.specs.Prelude.{◌≡◌};
+ghost use Rattle.ref_journal.specs.declared.faults.AppendFault.TheVariants.{};
 ghost use Rattle.ref_journal.specs.declared.faults.AppendFault.TheVariants.{DiskFault as AppendDiskFault};
-ghost use Rattle.ref_journal.specs.declared.faults.ScanFault.TheVariants.{DiskFault as ScanDiskFault, NoMemory as ScanNoMemory};
+ghost use Rattle.ref_journal.specs.declared.faults.ScanFault.TheVariants.{};
+ghost use Rattle.ref_journal.specs.declared.faults.ScanFault.TheVariants.{DiskFault as ScanDiskFault};
+ghost use Rattle.ref_journal.specs.declared.faults.ScanFault.TheVariants.{NoMemory as ScanNoMemory};
 
 use rad_outside::Failed;
 use std::alloc::AllocError;

@@ -1,5 +1,7 @@
 // The journal with the disk that it holds.
-ghost use Rattle.std.specs.Prelude.{◌≡◌, ◌↔◌, ◌≤◌, ◌<◌, ◌^◌, ◌+◌, ◌++◌, ◌∷◌, [], if◌then◌else◌, length, List, ℕ, Some, is_ok, IfErr, IfNone, IfOk, IfSome, IsErrOf, IsNone, OnOk};
+ghost use Rattle.std.specs.Prelude.{◌≡◌, ◌↔◌, ◌≤◌, ◌<◌, ◌^◌, ◌+◌, ◌++◌, ◌∷◌, [], if◌then◌else◌};
+ghost use Rattle.std.specs.Prelude.{length, List, ℕ, Some, is_ok, IfErr, IfNone, IfOk, IfSome};
+ghost use Rattle.std.specs.Prelude.{IsErrOf, IsNone, OnOk};
 ghost use Rattle.rad_base.specs.Faults.{Rose};
 ghost use Rattle.ref_journal.specs.Frames.{gate_behind};
 ghost use Rattle.ref_journal.specs.Moments.{HasBodiesOrOneMore};
@@ -15,9 +17,9 @@ const LIMIT: u64 = 1 << 40;
 /// A journal on a disk that it holds.
 ///
 /// Its bytes are the header `01 72 61 64 6a 72 6e 01`, one record for each body, and a closed gate,
-/// which is any byte but 1. A record is an open gate, which is a byte 1, the body's length in 8 bytes,
-/// the most significant first, at most 34,000,000, and the body. What stands behind the closed gate
-/// is unread. This format is the project's own.
+/// which is any byte but 1. A record is an open gate, which is a byte 1, the body's length in 8
+/// bytes, the most significant first, at most 34,000,000, and the body. What stands behind the
+/// closed gate is unread. This format is the project's own.
 #[derive(Drop)]
 pub struct Journal<D> {
     disk: D,
@@ -46,8 +48,8 @@ impl<D: Disk> Journal<D> {
 
     /// Adds a body at the end, and answers the place where it stands. At Ok it is on the disk for
     /// good, and a crash at any moment of the call leaves the bodies with it or without it.
-    /// `Full`: the journal would be longer than 2^40 bytes; it serves as before. `DiskFault`: a call
-    /// of the disk failed; close the journal. It takes no memory.
+    /// `Full`: the journal would be longer than 2^40 bytes; it serves as before. `DiskFault`: a
+    /// call of the disk failed; close the journal. It takes no memory.
     pub fn append(&mut self, parcel: &Parcel) -> Result<u64, AppendFault>
         ensures stays { D.loan self.new.disk ≡ D.loan self.old.disk }
         ensures later { D.faults self.old.disk ≤ D.faults self.new.disk }
@@ -79,9 +81,9 @@ impl<D: Disk> Journal<D> {
     }
 
     /// Reads the body behind the gate at a place, and answers the place of the next gate. The first
-    /// gate stands at 8. At the end it answers None, and `into` is empty. After a refusal `into` may
-    /// hold anything: `DiskFault` where a call of the disk failed, `NoMemory` where memory for the
-    /// body was refused.
+    /// gate stands at 8. At the end it answers None, and `into` is empty. After a refusal `into`
+    /// may hold anything: `DiskFault` where a call of the disk failed, `NoMemory` where memory for
+    /// the body was refused.
     pub fn scan(&mut self, place: u64, into: &mut Vec<u8>) -> Result<Option<u64>, ScanFault>
         ensures reads { OnlyReads D.loan D.faults D.reads_as D.images self.old.disk self.new.disk }
         ensures end { self.new.end ≡ self.old.end }

@@ -1,5 +1,6 @@
 // The record behind a gate: a write that lasts, and the body that is read.
-ghost use Rattle.std.specs.Prelude.{◌≡◌, ◌≤◌, ◌<◌, ◌+◌, ◌^◌, List, ℕ, length, IfOk, IfSome, IsErrOf, OnOk};
+ghost use Rattle.std.specs.Prelude.{◌≡◌, ◌≤◌, ◌<◌, ◌+◌, ◌^◌, List, ℕ, length, IfOk, IfSome};
+ghost use Rattle.std.specs.Prelude.{IsErrOf, OnOk};
 ghost use Rattle.rad_base.specs.Faults.{Rose};
 ghost use Rattle.rad_outside.specs.Causes.{HasCause};
 ghost use Rattle.rad_outside.specs.Disks.{Changes};

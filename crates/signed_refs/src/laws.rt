@@ -33,6 +33,7 @@ pub fn one_saying()
         (commit : Oid) (a b : List Line) → Signed objects keyring rid node commit a
         → Signed objects keyring rid node commit b → a ≡ b }
     ensures alone { (objects : ObjectMap) (keyring : Contents) (rid : Rid) (node : Nid)
-        (commit : Oid) (refs : List Line) (fault : SigFault) → Signed objects keyring rid node commit refs
+        (commit : Oid) (refs : List Line) (fault : SigFault)
+        → Signed objects keyring rid node commit refs
         → Refuses objects keyring rid node commit fault → IsFault fault }
 {}

@@ -24,7 +24,8 @@ fn add(alloc: Global, refs: &mut Refs, name: &[u8], oid: Oid) -> Result<(), NoMe
 /// Reads signed refs: 0 to 65,536 lines, each the 40 lower case hexadecimal digits of an object's
 /// name, a space, the name of a ref and a line feed. The refs' names are strictly rising by their
 /// bytes. Each begins with `refs/`, breaks no rule of git-check-ref-format, and is not
-/// `refs/rad/sigrefs`. It is after the Radicle Heartwood protocol; the format is this project's own.
+/// `refs/rad/sigrefs`. It is after the Radicle Heartwood protocol; the format is this project's
+/// own.
 ///
 /// `BadLine(n)` where line n, counted from 1 and at most 65,536, is the first that breaks this;
 /// `TooMany` exactly where bytes follow 65,536 good lines.

@@ -27,7 +27,8 @@ use tree_entry::{commit_entry, is_identity_root};
 fn check_closed<O: Objects>(alloc: Global, objects: &mut O, commit: &Oid) -> Result<(), SigFault>
     ensures told { ForSome (O.content objects.old)
         (λ m. OnOk result (IsClosedCommit m commit.now)) }
-    ensures refused { ForSome (O.content objects.old) (λ m. IfErr result (RefusesAlways m commit.now)) }
+    ensures refused { ForSome (O.content objects.old)
+        (λ m. IfErr result (RefusesAlways m commit.now)) }
     ensures kept { O.content objects.new ≡ O.content objects.old }
     ensures beside { O.beside objects.new ≡ O.beside objects.old }
     ensures cause { HasSigCause (O.content objects.old)
@@ -156,9 +157,9 @@ fn keeps_root<O: Objects>(objects: &mut O, rid: &Rid, refs: &Refs) -> Result<boo
 
 /// The refs that a node's commit says. The tree of the commit has the blobs `refs`, as `read_refs`
 /// reads it, and `signature`, of 64 bytes: after the Radicle Heartwood protocol, in this project's
-/// own form. The keyring accepts the node's signature over the bytes of the refs. A ref `refs/rad/root`, where
-/// there is one, names an identity root of the repository. Other entries of the tree are unread;
-/// the commit may have any number of parents, and they need not be signed.
+/// own form. The keyring accepts the node's signature over the bytes of the refs. A ref
+/// `refs/rad/root`, where there is one, names an identity root of the repository. Other entries of
+/// the tree are unread; the commit may have any number of parents, and they need not be signed.
 ///
 /// It is refused by the first that fails, in this order: `Missing` and `BadObject` where the commit
 /// is not closed, as `closure` says; `BadSigrefs` where the blobs are not as they should be;

@@ -38,7 +38,8 @@ pub fn commit_tree<O: Objects>(objects: &mut O, oid: &Oid) -> Result<Option<Comm
     ensures told { ForSome (O.content objects.old) (λ m. IfOk result (Shows m oid.now)) }
     ensures kept { O.content objects.new ≡ O.content objects.old }
     ensures beside { O.beside objects.new ≡ O.beside objects.old }
-    ensures cause { HasCause (O.content objects.old) (O.faults objects.old) (O.faults objects.new) result }
+    ensures cause { HasCause (O.content objects.old) (O.faults objects.old) (O.faults objects.new)
+        result }
 {
     match objects.get(oid) {
         Err(fault) => Err(fault),
@@ -59,7 +60,8 @@ pub fn commit_entry<O: Objects>(
         (λ m. IfOk result (Finds (HasCommitEntry m oid.now kind name.now))) }
     ensures kept { O.content objects.new ≡ O.content objects.old }
     ensures beside { O.beside objects.new ≡ O.beside objects.old }
-    ensures cause { HasCause (O.content objects.old) (O.faults objects.old) (O.faults objects.new) result }
+    ensures cause { HasCause (O.content objects.old) (O.faults objects.old) (O.faults objects.new)
+        result }
 {
     let Some(found) = commit_tree(objects, oid)? else {
         return Ok(None);

@@ -59,7 +59,8 @@ pub fn find_entry<O: Objects>(
         (λ m. IfOk result (Finds (HasEntry m tree.now kind name.now))) }
     ensures kept { O.content objects.new ≡ O.content objects.old }
     ensures beside { O.beside objects.new ≡ O.beside objects.old }
-    ensures cause { HasCause (O.content objects.old) (O.faults objects.old) (O.faults objects.new) result }
+    ensures cause { HasCause (O.content objects.old) (O.faults objects.old) (O.faults objects.new)
+        result }
 {
     match objects.get(tree) {
         Err(fault) => Err(fault),

@@ -22,7 +22,8 @@ pub fn embedded<O: Objects>(
         (λ m. IfOk result (Finds (HasEmbedded m oid.now name.now))) }
     ensures kept { O.content objects.new ≡ O.content objects.old }
     ensures beside { O.beside objects.new ≡ O.beside objects.old }
-    ensures cause { HasCause (O.content objects.old) (O.faults objects.old) (O.faults objects.new) result }
+    ensures cause { HasCause (O.content objects.old) (O.faults objects.old) (O.faults objects.new)
+        result }
 {
     let Some(embeds) = commit_entry(objects, oid, Kind::Tree, b"embeds")? else {
         return Ok(None);
@@ -45,7 +46,8 @@ pub fn is_identity_root<O: Objects>(objects: &mut O, rid: &Rid, oid: &Oid) -> Re
         (λ m. IfOk result (λ is. IsTrue is ↔ IsIdentityRoot m rid.now oid.now)) }
     ensures kept { O.content objects.new ≡ O.content objects.old }
     ensures beside { O.beside objects.new ≡ O.beside objects.old }
-    ensures cause { HasCause (O.content objects.old) (O.faults objects.old) (O.faults objects.new) result }
+    ensures cause { HasCause (O.content objects.old) (O.faults objects.old) (O.faults objects.new)
+        result }
 {
     let Some(found) = commit_tree(objects, oid)? else {
         return Ok(false);
