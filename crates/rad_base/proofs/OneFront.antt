@@ -40,14 +40,14 @@ pub strips : (bytes word : List ℕ) (r : Option (Bor (List ℕ)))
     → Strips bytes word r
 strips bytes word r h = strips_from bytes word r (strip_prefix_is Decides-eqb bytes word r h)
 
--- lists of one length in front are one
+-- at most one list of a length stands in front
 pub one_front : (x y a b : List ℕ) → length x ≡ length y → x ++ a ≡ y ++ b → (x ≡ y) × (a ≡ b)
 one_front x y a b size e = (
   sym (take_at x a (length x) refl) ∙ ap (take (length x)) e ∙ take_at y b (length x) (sym size),
   sym (drop_at x a (length x) refl) ∙ ap (drop (length x)) e ∙ drop_at y b (length x) (sym size),
 )
 
--- what stands behind one item in front is one
+-- at most one list stands behind an item in front
 pub one_behind : {X : Type 0} (x : X) (xs ys : List X) → x ∷ xs ≡ x ∷ ys → xs ≡ ys
 one_behind x xs ys e = cc e
 
@@ -109,7 +109,7 @@ stopped stop at bytes s = (
         let next : suc at ≡ at + 1 = omega arith in
         rw (whole, head, s.here, next) refl
 
--- what stands before the first byte that stops is one
+-- at most one list stands before the first byte that stops
 pub one_until : (stop : ℕ) (x y a b : List ℕ) → Lacks stop x → Lacks stop y → x ++ stop ∷ a ≡ y ++ stop ∷ b → (x ≡ y) × (a ≡ b)
 one_until stop [] [] a b hx hy e = (refl, cc)
 one_until stop [] (d ∷ y) a b hx hy e =
@@ -130,12 +130,12 @@ pub not_lacking : (stop : ℕ) (x a : List ℕ) → Lacks stop (x ++ stop ∷ a)
 not_lacking stop [] a h = h 0 0 (omega arith) refl
 not_lacking stop (c ∷ x) a h = not_lacking stop x a (λ k d inside. h (suc k) d (omega arith))
 
--- bytes that are spelled alike in hexadecimal are one
+-- bytes that are spelled alike in hexadecimal are equal
 pub one_spelling : (n : ℕ) (x y : List ℕ) → HasBytes n x → HasBytes n y → encode_lower x ≡ encode_lower y → x ≡ y
 one_spelling n x y hx hy e =
     decode_of-same (encode_lower x) x y (decode_of-encode_lower x hx.fits) (rw e (decode_of-encode_lower y hy.fits))
 
--- a hexadecimal text of n bytes in front is one
+-- at most one hexadecimal text of n bytes stands in front
 pub one_text : (n : ℕ) (x y a b : List ℕ) → HasBytes n x → HasBytes n y → encode_lower x ++ a ≡ encode_lower y ++ b → (x ≡ y) × (a ≡ b)
 one_text n x y a b hx hy e =
     let parts = one_front (encode_lower x) (encode_lower y) a b (text_size n x hx ∙ sym (text_size n y hy)) e in
@@ -162,33 +162,33 @@ pub text_front : (n : ℕ) (bytes front rest x : List ℕ) → front ≡ take (2
     → bytes ≡ encode_lower x ++ rest
 text_front n bytes front rest x f r same = sym (take-append-drop (2 * n) bytes) ∙ rw (sym f, sym r, same) refl
 
--- the name in front, as 20 bytes, is one
+-- at most one name, as 20 bytes, stands in front
 pub one_oid : (x y : Oid) (a b : List ℕ) → HasBytes 20 x.0 → HasBytes 20 y.0 → x.0 ++ a ≡ y.0 ++ b → (x ≡ y) × (a ≡ b)
 one_oid x y a b hx hy e =
     let parts = one_front x.0 y.0 a b (hx.size ∙ sym hy.size) e in
     (ap (λ (bytes : List ℕ). let oid : Oid = record { 0 = bytes } in oid) parts.0, parts.1)
 
--- the key in front, as 32 bytes, is one
+-- at most one key, as 32 bytes, stands in front
 pub one_nid : (x y : Nid) (a b : List ℕ) → HasBytes 32 x.0 → HasBytes 32 y.0 → x.0 ++ a ≡ y.0 ++ b → (x ≡ y) × (a ≡ b)
 one_nid x y a b hx hy e =
     let parts = one_front x.0 y.0 a b (hx.size ∙ sym hy.size) e in
     (ap (λ (bytes : List ℕ). let nid : Nid = record { 0 = bytes } in nid) parts.0, parts.1)
 
--- the name in front, as a text, is one
+-- at most one name, as a text, stands in front
 pub one_oid_text : (x y : Oid) (a b : List ℕ) → HasBytes 20 x.0 → HasBytes 20 y.0 → encode_lower x.0 ++ a ≡ encode_lower y.0 ++ b
     → (x ≡ y) × (a ≡ b)
 one_oid_text x y a b hx hy e =
     let parts = one_text 20 x.0 y.0 a b hx hy e in
     (ap (λ (bytes : List ℕ). let oid : Oid = record { 0 = bytes } in oid) parts.0, parts.1)
 
--- the key in front, as a text, is one
+-- at most one key, as a text, stands in front
 pub one_nid_text : (x y : Nid) (a b : List ℕ) → HasBytes 32 x.0 → HasBytes 32 y.0 → encode_lower x.0 ++ a ≡ encode_lower y.0 ++ b
     → (x ≡ y) × (a ≡ b)
 one_nid_text x y a b hx hy e =
     let parts = one_text 32 x.0 y.0 a b hx hy e in
     (ap (λ (bytes : List ℕ). let nid : Nid = record { 0 = bytes } in nid) parts.0, parts.1)
 
--- the signature in front, as a text, is one
+-- at most one signature, as a text, stands in front
 pub one_sig_text : (x y : Sig) (a b : List ℕ) → HasBytes 64 x.0 → HasBytes 64 y.0 → encode_lower x.0 ++ a ≡ encode_lower y.0 ++ b
     → (x ≡ y) × (a ≡ b)
 one_sig_text x y a b hx hy e =

@@ -1,5 +1,6 @@
 -- Spellings of integers: each can be read in one way.
 use Rattle.std.proofs.Common.{Bool, true, false, ◌≡◌, ℕ, ◌+◌, ◌-◌, ◌*◌, ◌/◌, ◌^◌, ◌<◌, ◌≤◌, ◌==◌, nat_lt, if◌then◌else◌, List, [], ◌∷◌, ◌++◌, length, get_or, take, drop, Some, slice_get, slice_set, refl, sym, ap, subst, ◌∙◌, arith, take-append-drop}
+use Rattle.std.proofs.lemmas.Bool.{le-ltb, lt-ltb, ltb-false, ltb-true}
 use Rattle.std.proofs.lemmas.List.{get_or-take, length-take-le, take_at}
 use Rattle.std.proofs.lemmas.Nat.{be_bytes_2, be_bytes_4, be_bytes_8, from_be_bytes-to_be_bytes_2, from_be_bytes-to_be_bytes_4, from_be_bytes-to_be_bytes_8}
 use Rattle.std.specs.Int.{from_be_bytes, to_be_bytes, w16, w32, w64}
@@ -10,44 +11,32 @@ use Rattle.rad_base.specs.Varint.{BeginsWithLong, BeginsWithVarint, EndsInside, 
 use Rattle.rad_base.specs.declared.varint.Varint.{Varint}
 use Rattle.rad_base.specs.declared.varint.Varint.TheVariants.{Value, Short, Long}
 
-lt_true : (m n : ℕ) → m < n → nat_lt m n ≡ true
-lt_true m n h = grind arith
-
-lt_false : (m n : ℕ) → n ≤ m → nat_lt m n ≡ false
-lt_false m n h = grind arith
-
-true_lt : (m n : ℕ) → nat_lt m n ≡ true → m < n
-true_lt m n h = grind arith
-
-false_le : (m n : ℕ) → nat_lt m n ≡ false → n ≤ m
-false_le m n h = grind arith
-
 -- the least size of each number
 pub shortest_one : (n : ℕ) → n < 2 ^ 6 → shortest n ≡ One
-shortest_one n a = rw (lt_true n (2 ^ 6) a) refl
+shortest_one n a = rw (lt-ltb n (2 ^ 6) a) refl
 
 pub shortest_two : (n : ℕ) → 2 ^ 6 ≤ n → n < 2 ^ 14 → shortest n ≡ Two
-shortest_two n a b = rw (lt_false n (2 ^ 6) a, lt_true n (2 ^ 14) b) refl
+shortest_two n a b = rw (le-ltb n (2 ^ 6) a, lt-ltb n (2 ^ 14) b) refl
 
 pub shortest_four : (n : ℕ) → 2 ^ 14 ≤ n → n < 2 ^ 30 → shortest n ≡ Four
 shortest_four n a b =
     let low : 2 ^ 6 ≤ n = omega (arith, a) in
-    rw (lt_false n (2 ^ 6) low, lt_false n (2 ^ 14) a, lt_true n (2 ^ 30) b) refl
+    rw (le-ltb n (2 ^ 6) low, le-ltb n (2 ^ 14) a, lt-ltb n (2 ^ 30) b) refl
 
 pub shortest_eight : (n : ℕ) → 2 ^ 30 ≤ n → shortest n ≡ Eight
 shortest_eight n a =
     let low : 2 ^ 6 ≤ n = omega (arith, a) in
     let middle : 2 ^ 14 ≤ n = omega (arith, a) in
-    rw (lt_false n (2 ^ 6) low, lt_false n (2 ^ 14) middle, lt_false n (2 ^ 30) a) refl
+    rw (le-ltb n (2 ^ 6) low, le-ltb n (2 ^ 14) middle, le-ltb n (2 ^ 30) a) refl
 
 -- the least size has room
 shortest_room : (n : ℕ) → n < 2 ^ 62 → n < room (shortest n)
 shortest_room n fits = go (nat_lt n (2 ^ 6)) (nat_lt n (2 ^ 14)) (nat_lt n (2 ^ 30)) refl refl refl
   where
     go : (a b c : Bool) → nat_lt n (2 ^ 6) ≡ a → nat_lt n (2 ^ 14) ≡ b → nat_lt n (2 ^ 30) ≡ c → n < room (if a then One else if b then Two else if c then Four else Eight)
-    go true b c ea eb ec = true_lt n (2 ^ 6) ea
-    go false true c ea eb ec = true_lt n (2 ^ 14) eb
-    go false false true ea eb ec = true_lt n (2 ^ 30) ec
+    go true b c ea eb ec = ltb-true n (2 ^ 6) ea
+    go false true c ea eb ec = ltb-true n (2 ^ 14) eb
+    go false false true ea eb ec = ltb-true n (2 ^ 30) ec
     go false false false ea eb ec = fits
 
 spelled_size : (s : Size) (n : ℕ) → length (spelled s n) ≡ size_bytes s
@@ -103,9 +92,9 @@ same_number Eight m n a b h =
     let fn : 3 * 2 ^ 62 + n < 2 ^ 64 = omega (arith, b) in
     omega (arith, sym (from_be_bytes-to_be_bytes_8 (3 * 2 ^ 62 + m) fm) ∙ ap (from_be_bytes w64) h ∙ from_be_bytes-to_be_bytes_8 (3 * 2 ^ 62 + n) fn)
 
--- a spelling in front is of one size and one number
-pub one_spelling : (s t : Size) (m n : ℕ) (a b : List ℕ) → m < room s → n < room t → spelled s m ++ a ≡ spelled t n ++ b → (s ≡ t) × (m ≡ n) × (a ≡ b)
-one_spelling s t m n a b fm fn h =
+-- at most one spelling stands in front: its size and its number are determined
+pub one_size_and_number : (s t : Size) (m n : ℕ) (a b : List ℕ) → m < room s → n < room t → spelled s m ++ a ≡ spelled t n ++ b → (s ≡ t) × (m ≡ n) × (a ≡ b)
+one_size_and_number s t m n a b fm fn h =
     let marks : mark s ≡ mark t = sym (marked s m a fm) ∙ ap (λ (l : List ℕ). get_or l 0 0 / 64) h ∙ marked t n b fn in
     let same : s ≡ t = sym (of_mark_is s) ∙ ap of_mark marks ∙ of_mark_is t in
     let h' = subst (λ (u : Size). spelled s m ++ a ≡ spelled u n ++ b) (sym same) h in
@@ -117,7 +106,7 @@ one_spelling s t m n a b fm fn h =
 pub one_varint : (m n : ℕ) (a b : List ℕ) → m < 2 ^ 62 → n < 2 ^ 62 → varint m ++ a ≡ varint n ++ b → (m ≡ n) × (a ≡ b)
 unfolding varint
 one_varint m n a b fm fn h =
-    let one = one_spelling (shortest m) (shortest n) m n a b (shortest_room m fm) (shortest_room n fn) h in
+    let one = one_size_and_number (shortest m) (shortest n) m n a b (shortest_room m fm) (shortest_room n fn) h in
     (one.1, one.2)
 
 whole : (s : Size) (n : ℕ) (rest : List ℕ) → n < room s → EndsInside (spelled s n ++ rest) → ⊥
@@ -133,7 +122,7 @@ no_end n rest fits h = whole (shortest n) n rest (shortest_room n fits) h
 no_long : (n : ℕ) (rest : List ℕ) → n < 2 ^ 62 → BeginsWithLong (varint n ++ rest) → ⊥
 unfolding varint
 no_long n rest fits r =
-    let one = one_spelling (shortest n) r.size n r.number rest r.rest (shortest_room n fits) r.fits r.text in
+    let one = one_size_and_number (shortest n) r.size n r.number rest r.rest (shortest_room n fits) r.fits r.text in
     omega (arith, r.longer, ap (λ (m : ℕ). size_bytes (shortest m)) one.1, ap size_bytes one.0)
 
 -- reading a spelling gives its number
@@ -144,11 +133,6 @@ varint_read n rest (Value m count) fits r =
 varint_read n rest Short fits r = absurd (no_end n rest fits r)
 varint_read n rest Long fits r = absurd (no_long n rest fits r)
 
--- fewer bytes than the first one says
-pub short_of : (bytes : List ℕ) (k : ℕ) → get_or bytes 0 0 / 64 ≡ k → length bytes < 2 ^ k → EndsInside bytes
-short_of [] k e h = tt
-short_of (b ∷ rest) k e h = rw e h
-
 -- a number in a size that has room for it is the shortest spelling, or a longer one
 pub judged : (s : Size) (bytes rest : List ℕ) (n least : ℕ) → n < room s → n < 2 ^ 62 → bytes ≡ spelled s n ++ rest
     → (n < least → size_bytes (shortest n) < size_bytes s) → (least ≤ n → shortest n ≡ s)
@@ -156,41 +140,41 @@ pub judged : (s : Size) (bytes rest : List ℕ) (n least : ℕ) → n < room s �
 judged s bytes rest n least fits small text below above = go (nat_lt n least) refl
   where
     go : (b : Bool) → nat_lt n least ≡ b → ReadsVarint bytes (if b then Long else Value n (size_bytes s))
-    go true e = record { size = s; number = n; rest = rest; fits = fits; text = text; longer = below (true_lt n least e) }
+    go true e = record { size = s; number = n; rest = rest; fits = fits; text = text; longer = below (ltb-true n least e) }
     go false e =
-        let same = above (false_le n least e) in
+        let same = above (ltb-false n least e) in
         record { fits = small; rest = rest; text = text ∙ ap (λ (l : List ℕ). l ++ rest) (sym (varint_is s n same)); size = varint_size s n same }
 
--- a chunk at the front, and the number that it is
-pub record IsFront (size : ℕ) (bytes front : List ℕ) : Type 0 where
+-- the first bytes, as many as this, each below 256
+pub record IsChunk (size : ℕ) (bytes front : List ℕ) : Type 0 where
   pub enough : size ≤ length bytes
   pub small : (i : ℕ) → get_or front i 0 < 256
   pub is : front ≡ take size bytes
 
 -- a chunk of bytes
-pub front_at : (k : ℕ) (bytes front : List ℕ) → IsFirstChunk bytes front k → IsBytes bytes → IsFront k bytes front
+pub front_at : (k : ℕ) (bytes front : List ℕ) → IsFirstChunk bytes front k → IsBytes bytes → IsChunk k bytes front
 front_at k bytes front chunk fits =
     let f = front_of k bytes front (drop k bytes) chunk.enough fits chunk.same refl in
     record { enough = chunk.enough; small = f.whole.fits; is = chunk.same }
 
-first_same : (k : ℕ) (bytes front : List ℕ) → 0 < k → IsFront k bytes front → get_or front 0 0 ≡ get_or bytes 0 0
+first_same : (k : ℕ) (bytes front : List ℕ) → 0 < k → IsChunk k bytes front → get_or front 0 0 ≡ get_or bytes 0 0
 first_same k bytes front some f = ap (λ (l : List ℕ). get_or l 0 0) f.is ∙ get_or-take k bytes 0 0 some
 
-front_text : (k : ℕ) (bytes front text : List ℕ) → IsFront k bytes front → text ≡ front → bytes ≡ text ++ drop k bytes
+front_text : (k : ℕ) (bytes front text : List ℕ) → IsChunk k bytes front → text ≡ front → bytes ≡ text ++ drop k bytes
 front_text k bytes front text f e = sym (take-append-drop k bytes) ∙ ap (λ (l : List ℕ). l ++ drop k bytes) (sym (e ∙ f.is))
 
-front_size : (k : ℕ) (bytes front : List ℕ) → IsFront k bytes front → length front ≡ k
+front_size : (k : ℕ) (bytes front : List ℕ) → IsChunk k bytes front → length front ≡ k
 front_size k bytes front f = ap length f.is ∙ length-take-le k bytes f.enough
 
--- two bytes of which the first one says so
-pub two_range : (bytes front : List ℕ) (x : ℕ) → IsFront 2 bytes front → get_or bytes 0 0 / 64 ≡ 1 → x ≡ from_be_bytes w16 front → (2 ^ 14 ≤ x) × (x < 2 ^ 15)
+-- two bytes of which the first one says that they are two
+pub two_range : (bytes front : List ℕ) (x : ℕ) → IsChunk 2 bytes front → get_or bytes 0 0 / 64 ≡ 1 → x ≡ from_be_bytes w16 front → (2 ^ 14 ≤ x) × (x < 2 ^ 15)
 two_range bytes front x f e is =
     let head : get_or front 0 0 / 64 ≡ 1 = ap (λ (n : ℕ). n / 64) (first_same 2 bytes front (omega arith) f) ∙ e in
     let s0 = f.small 0 in
     let s1 = f.small 1 in
     (omega (arith, head, is, s0, s1), omega (arith, head, is, s0, s1))
 
-pub read_two_is : (bytes front : List ℕ) (x : ℕ) → IsFront 2 bytes front → get_or bytes 0 0 / 64 ≡ 1 → x ≡ from_be_bytes w16 front
+pub read_two_is : (bytes front : List ℕ) (x : ℕ) → IsChunk 2 bytes front → get_or bytes 0 0 / 64 ≡ 1 → x ≡ from_be_bytes w16 front
     → (n : ℕ) (answer : Varint) → n ≡ x - 2 ^ 14 → answer ≡ (if nat_lt n (2 ^ 6) then Long else Value n 2) → ReadsVarint bytes answer
 read_two_is bytes front x f e is n answer number same =
     let range = two_range bytes front x f e is in
@@ -200,8 +184,8 @@ read_two_is bytes front x f e is n answer number same =
     (λ low. omega (arith, ap size_bytes (shortest_one (x - 2 ^ 14) low)))
     (λ high. shortest_two (x - 2 ^ 14) high (omega (arith, range.1))))
 
--- four bytes of which the first one says so
-pub four_range : (bytes front : List ℕ) (x : ℕ) → IsFront 4 bytes front → get_or bytes 0 0 / 64 ≡ 2 → x ≡ from_be_bytes w32 front → (2 ^ 31 ≤ x) × (x < 2 ^ 31 + 2 ^ 30)
+-- four bytes of which the first one says that they are four
+pub four_range : (bytes front : List ℕ) (x : ℕ) → IsChunk 4 bytes front → get_or bytes 0 0 / 64 ≡ 2 → x ≡ from_be_bytes w32 front → (2 ^ 31 ≤ x) × (x < 2 ^ 31 + 2 ^ 30)
 four_range bytes front x f e is =
     let head : get_or front 0 0 / 64 ≡ 2 = ap (λ (n : ℕ). n / 64) (first_same 4 bytes front (omega arith) f) ∙ e in
     let s0 = f.small 0 in
@@ -210,7 +194,7 @@ four_range bytes front x f e is =
     let s3 = f.small 3 in
     (omega (arith, head, is, s0, s1, s2, s3), omega (arith, head, is, s0, s1, s2, s3))
 
-pub read_four_is : (bytes front : List ℕ) (x : ℕ) → IsFront 4 bytes front → get_or bytes 0 0 / 64 ≡ 2 → x ≡ from_be_bytes w32 front
+pub read_four_is : (bytes front : List ℕ) (x : ℕ) → IsChunk 4 bytes front → get_or bytes 0 0 / 64 ≡ 2 → x ≡ from_be_bytes w32 front
     → (n : ℕ) (answer : Varint) → n ≡ x - 2 ^ 31 → answer ≡ (if nat_lt n (2 ^ 14) then Long else Value n 4) → ReadsVarint bytes answer
 read_four_is bytes front x f e is n answer number same =
     let range = four_range bytes front x f e is in
@@ -224,11 +208,11 @@ read_four_is bytes front x f e is n answer number same =
     below_four n low = go (nat_lt n (2 ^ 6)) refl
       where
         go : (b : Bool) → nat_lt n (2 ^ 6) ≡ b → size_bytes (shortest n) < 4
-        go true e = omega (arith, ap size_bytes (shortest_one n (true_lt n (2 ^ 6) e)))
-        go false e = omega (arith, ap size_bytes (shortest_two n (false_le n (2 ^ 6) e) low))
+        go true e = omega (arith, ap size_bytes (shortest_one n (ltb-true n (2 ^ 6) e)))
+        go false e = omega (arith, ap size_bytes (shortest_two n (ltb-false n (2 ^ 6) e) low))
 
--- eight bytes of which the first one says so
-pub eight_range : (bytes front : List ℕ) (x : ℕ) → IsFront 8 bytes front → get_or bytes 0 0 / 64 ≡ 3 → x ≡ from_be_bytes w64 front → (3 * 2 ^ 62 ≤ x) × (x < 2 ^ 64)
+-- eight bytes of which the first one says that they are eight
+pub eight_range : (bytes front : List ℕ) (x : ℕ) → IsChunk 8 bytes front → get_or bytes 0 0 / 64 ≡ 3 → x ≡ from_be_bytes w64 front → (3 * 2 ^ 62 ≤ x) × (x < 2 ^ 64)
 eight_range bytes front x f e is =
     let head : get_or front 0 0 / 64 ≡ 3 = ap (λ (n : ℕ). n / 64) (first_same 8 bytes front (omega arith) f) ∙ e in
     let s0 = f.small 0 in
@@ -241,7 +225,7 @@ eight_range bytes front x f e is =
     let s7 = f.small 7 in
     (omega (arith, head, is, s0, s1, s2, s3, s4, s5, s6, s7), omega (arith, head, is, s0, s1, s2, s3, s4, s5, s6, s7))
 
-pub read_eight_is : (bytes front : List ℕ) (x : ℕ) → IsFront 8 bytes front → get_or bytes 0 0 / 64 ≡ 3 → x ≡ from_be_bytes w64 front
+pub read_eight_is : (bytes front : List ℕ) (x : ℕ) → IsChunk 8 bytes front → get_or bytes 0 0 / 64 ≡ 3 → x ≡ from_be_bytes w64 front
     → (n : ℕ) (answer : Varint) → n ≡ x - 3 * 2 ^ 62 → answer ≡ (if nat_lt n (2 ^ 30) then Long else Value n 8) → ReadsVarint bytes answer
 read_eight_is bytes front x f e is n answer number same =
     let range = eight_range bytes front x f e is in
@@ -255,9 +239,9 @@ read_eight_is bytes front x f e is n answer number same =
     below_eight n low = go (nat_lt n (2 ^ 6)) (nat_lt n (2 ^ 14)) refl refl
       where
         go : (a b : Bool) → nat_lt n (2 ^ 6) ≡ a → nat_lt n (2 ^ 14) ≡ b → size_bytes (shortest n) < 8
-        go true b ea eb = omega (arith, ap size_bytes (shortest_one n (true_lt n (2 ^ 6) ea)))
-        go false true ea eb = omega (arith, ap size_bytes (shortest_two n (false_le n (2 ^ 6) ea) (true_lt n (2 ^ 14) eb)))
-        go false false ea eb = omega (arith, ap size_bytes (shortest_four n (false_le n (2 ^ 14) eb) low))
+        go true b ea eb = omega (arith, ap size_bytes (shortest_one n (ltb-true n (2 ^ 6) ea)))
+        go false true ea eb = omega (arith, ap size_bytes (shortest_two n (ltb-false n (2 ^ 6) ea) (ltb-true n (2 ^ 14) eb)))
+        go false false ea eb = omega (arith, ap size_bytes (shortest_four n (ltb-false n (2 ^ 14) eb) low))
 
 -- one byte below 64
 pub read_one_is : (bytes : List ℕ) (b : ℕ) → Some b ≡ slice_get bytes 0 → b < 64 → BeginsWithVarint bytes b 1

@@ -1,5 +1,5 @@
--- How many bytes a name, a key and a signature have, and bytes that lack one byte.
-use Rattle.std.specs.Prelude.{◌≡◌, ◌≢◌, ℕ, List, length}
+-- How many bytes a name, a key and a signature have, and bytes up to the first of one value.
+use Rattle.std.specs.Prelude.{◌≡◌, ◌≢◌, ℕ, List, ◌∷◌, ◌++◌, length}
 use Rattle.std.specs.List.{All}
 use Rattle.hex.specs.Hex.{IsBytes}
 use Rattle.rad_base.specs.declared.names.Oid.{Oid}
@@ -26,3 +26,7 @@ IsSig sig = HasBytes 64 sig.0
 -- none of the bytes is this one
 abbrev pub Lacks : ℕ → List ℕ → Type 0
 Lacks stop bytes = All (λ byte. byte ≢ stop) bytes
+
+-- the first byte of this value stands between these two parts of the bytes
+abbrev pub SplitsAt : ℕ → List ℕ → List ℕ → List ℕ → Type 0
+SplitsAt stop bytes before behind = Lacks stop before × (bytes ≡ before ++ stop ∷ behind)

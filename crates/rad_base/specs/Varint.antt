@@ -1,5 +1,7 @@
--- Integers in one to eight bytes, as RFC 9000 section 16 has them, each in its shortest spelling alone.
-use Rattle.std.specs.Prelude.{◌≡◌, ℕ, ◌+◌, ◌*◌, ◌/◌, ◌^◌, ◌<◌, nat_lt, if◌then◌else◌, List, [], ◌∷◌, ◌++◌, length}
+-- Integers in one to eight bytes, as RFC 9000 section 16 has them, each in its shortest spelling
+-- alone.
+use Rattle.std.specs.Prelude.{◌≡◌, ℕ, ◌+◌, ◌*◌, ◌/◌, ◌^◌, ◌<◌, nat_lt}
+use Rattle.std.specs.Prelude.{if◌then◌else◌, List, [], ◌∷◌, ◌++◌, length}
 use Rattle.std.specs.Int.{to_be_bytes, w16, w32, w64}
 use Rattle.rad_base.specs.declared.varint.Varint.{Varint}
 use Rattle.rad_base.specs.declared.varint.Varint.TheVariants.{Value, Short, Long}
@@ -11,6 +13,7 @@ pub data Size : Type 0 where
   Four : Size
   Eight : Size
 
+-- as a number
 abbrev pub size_bytes : Size → ℕ
 size_bytes One = 1
 size_bytes Two = 2
@@ -33,7 +36,11 @@ spelled Eight n = to_be_bytes w64 (3 * 2 ^ 62 + n)
 
 -- the least size that has room
 abbrev pub shortest : ℕ → Size
-shortest n = if nat_lt n (2 ^ 6) then One else if nat_lt n (2 ^ 14) then Two else if nat_lt n (2 ^ 30) then Four else Eight
+shortest n =
+    if nat_lt n (2 ^ 6) then One
+    else if nat_lt n (2 ^ 14) then Two
+    else if nat_lt n (2 ^ 30) then Four
+    else Eight
 
 -- the one spelling of a number below 2^62
 unfoldable pub varint : ℕ → List ℕ
@@ -69,7 +76,8 @@ ReadsVarint bytes Long = BeginsWithLong bytes
 -- no spelling begins another
 abbrev pub NoVarintBeginsAnother : Type 0
 NoVarintBeginsAnother =
-    (m n : ℕ) (a b : List ℕ) → m < 2 ^ 62 → n < 2 ^ 62 → varint m ++ a ≡ varint n ++ b → (m ≡ n) × (a ≡ b)
+    (m n : ℕ) (a b : List ℕ) → m < 2 ^ 62 → n < 2 ^ 62 → varint m ++ a ≡ varint n ++ b
+    → (m ≡ n) × (a ≡ b)
 
 -- reading a spelling gives its number, whatever follows
 abbrev pub VarintReadsBack : Type 0

@@ -27,7 +27,7 @@ impl Bytes {
         Bytes { items }
     }
 
-    /// A copy of these bytes.
+    /// A copy of these bytes. `NoMemory`: memory for it was refused.
     pub fn copy_of(alloc: Global, bytes: &[u8]) -> Result<Self, NoMemory>
         ensures { IfOk result (λ copy. copy ≡ bytes.now) }
     {

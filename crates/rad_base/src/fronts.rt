@@ -1,7 +1,7 @@
 // Reading what stands at the front of bytes: words, names and lines.
-ghost use Rattle.std.specs.Prelude.{◌≡◌, ◌∷◌, ◌++◌, ◌<◌, ℕ, List, length, IfSome, IfNone};
+ghost use Rattle.std.specs.Prelude.{◌≡◌, ◌++◌, ◌<◌, ℕ, List, length, IfSome, IfNone};
 ghost use Rattle.hex.specs.Hex.{encode_lower};
-ghost use Rattle.rad_base.specs.Sizes.{IsNid, IsOid, IsSig, Lacks};
+ghost use Rattle.rad_base.specs.Sizes.{IsNid, IsOid, IsSig, Lacks, SplitsAt};
 
 use crate::hexadecimal::{parse_nid, parse_oid, parse_sig};
 use crate::{Nid, Oid, Sig};
@@ -16,8 +16,7 @@ pub fn after<'a>(bytes: &'a [u8], word: &[u8]) -> Option<&'a [u8]>
 
 /// What stands before the first byte `stop`, and what stands behind it. None where there is none.
 pub fn until(bytes: &[u8], stop: u8) -> Option<(&[u8], &[u8])>
-    ensures found { IfSome result
-        (λ x. Lacks stop x.0.now × (bytes.now ≡ x.0.now ++ stop ∷ x.1.now)) }
+    ensures found { IfSome result (λ x. SplitsAt stop bytes.now x.0.now x.1.now) }
     ensures none { IfNone result (Lacks stop bytes.now) }
 {
     for (at, byte) in bytes.iter().enumerate() {
@@ -30,7 +29,7 @@ pub fn until(bytes: &[u8], stop: u8) -> Option<(&[u8], &[u8])>
 
 /// The first line without its line feed, and what stands behind it. None where no line ends.
 pub fn line_front(bytes: &[u8]) -> Option<(&[u8], &[u8])>
-    ensures found { IfSome result (λ x. Lacks 10 x.0.now × (bytes.now ≡ x.0.now ++ 10 ∷ x.1.now)) }
+    ensures found { IfSome result (λ x. SplitsAt 10 bytes.now x.0.now x.1.now) }
     ensures none { IfNone result (Lacks 10 bytes.now) }
 {
     until(bytes, b'\n')

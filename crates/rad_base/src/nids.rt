@@ -21,7 +21,7 @@ impl Model for Nids {
 }
 
 impl Nids {
-    /// None of them.
+    /// An empty list.
     pub fn new(alloc: Global) -> Self
         ensures { result ≡ [] }
     {
@@ -37,7 +37,7 @@ impl Nids {
         Nids { items }
     }
 
-    /// Adds one at the end.
+    /// Adds a key at the end. `NoMemory`: memory was refused, and the list stays as it was.
     pub fn push(&mut self, nid: Nid) -> Result<(), NoMemory>
         ensures ok { OnOk result (self.new ≡ self.old ++ nid ∷ []) }
         ensures err { OnErr result (self.new ≡ self.old) }
@@ -46,7 +46,7 @@ impl Nids {
         Ok(())
     }
 
-    /// They, in order.
+    /// The keys, in order.
     pub fn as_slice(&self) -> &[Nid]
         ensures { result.now ≡ self.now }
     {

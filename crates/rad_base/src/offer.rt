@@ -5,6 +5,8 @@ use crate::{Oid, Remotes};
 /// remote.
 #[derive(Debug, Drop)]
 pub struct Offer {
+    /// The name of the identity commit.
     pub id: Oid,
+    /// Each remote's key with the name of its commit of signed refs.
     pub remotes: Remotes,
 }

@@ -21,7 +21,7 @@ impl Model for Oids {
 }
 
 impl Oids {
-    /// None of them.
+    /// An empty list.
     pub fn new(alloc: Global) -> Self
         ensures { result ≡ [] }
     {
@@ -37,7 +37,7 @@ impl Oids {
         Oids { items }
     }
 
-    /// Adds one at the end.
+    /// Adds a name at the end. `NoMemory`: memory was refused, and the list stays as it was.
     pub fn push(&mut self, oid: Oid) -> Result<(), NoMemory>
         ensures ok { OnOk result (self.new ≡ self.old ++ oid ∷ []) }
         ensures err { OnErr result (self.new ≡ self.old) }
@@ -46,7 +46,7 @@ impl Oids {
         Ok(())
     }
 
-    /// They, in order.
+    /// The names, in order.
     pub fn as_slice(&self) -> &[Oid]
         ensures { result.now ≡ self.now }
     {

@@ -44,7 +44,8 @@ impl Remotes {
         Remotes { items }
     }
 
-    /// Adds a remote whose key is above those before it.
+    /// Adds a remote whose key is above those before it. `NoMemory`: memory was refused, and the
+    /// list stays as it was.
     pub fn push(&mut self, node: Nid, oid: Oid) -> Result<(), NoMemory>
         requires { IsAbove self.old node }
         ensures ok { OnOk result (self.new ≡ self.old ++ (node, oid) ∷ []) }

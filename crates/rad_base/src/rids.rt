@@ -21,7 +21,7 @@ impl Model for Rids {
 }
 
 impl Rids {
-    /// None of them.
+    /// An empty list.
     pub fn new(alloc: Global) -> Self
         ensures { result ≡ [] }
     {
@@ -37,7 +37,7 @@ impl Rids {
         Rids { items }
     }
 
-    /// Adds one at the end.
+    /// Adds a name at the end. `NoMemory`: memory was refused, and the list stays as it was.
     pub fn push(&mut self, rid: Rid) -> Result<(), NoMemory>
         ensures ok { OnOk result (self.new ≡ self.old ++ rid ∷ []) }
         ensures err { OnErr result (self.new ≡ self.old) }
@@ -46,7 +46,7 @@ impl Rids {
         Ok(())
     }
 
-    /// They, in order.
+    /// The names, in order.
     pub fn as_slice(&self) -> &[Rid]
         ensures { result.now ≡ self.now }
     {

@@ -4,7 +4,7 @@ ghost use Rattle.std.specs.Prelude.{slice_index, take};
 ghost use Rattle.rad_base.specs.Varint.{NoVarintBeginsAnother, ReadsVarint, VarintReadsBack};
 ghost use Rattle.rad_base.specs.Varint.{varint};
 
-/// What reading an integer answers.
+/// What reading an integer answers that is spelled as RFC 9000 section 16 has it.
 #[derive(Clone, Copy, Debug, PartialEq, Eq)]
 pub enum Varint {
     /// A number below 2^62, and how many bytes spell it: 1, 2, 4 or 8.
@@ -62,8 +62,8 @@ fn read_eight(bytes: &[u8]) -> Varint
     if_shortest(number, 1 << 30, 8)
 }
 
-/// The number at the front of the bytes, in the shortest spelling alone. The two highest bits of
-/// the first byte say how many bytes it has.
+/// The number at the front of the bytes, in the encoding of RFC 9000 section 16, the shortest
+/// spelling alone. The two highest bits of the first byte say how many bytes it has.
 pub fn read_varint(bytes: &[u8]) -> Varint
     ensures { ReadsVarint bytes.now result }
 {
@@ -78,7 +78,8 @@ pub fn read_varint(bytes: &[u8]) -> Varint
     }
 }
 
-/// Writes the number's shortest spelling to the front, and says how many bytes it has.
+/// Writes the shortest spelling of `n`, which is below 2^62, to the front, and answers how many
+/// bytes it has: 1, 2, 4 or 8. The bytes behind it stay as they were.
 pub fn write_varint(n: u64, out: &mut [u8; 8]) -> usize
     requires { n < 2 ^ 62 }
     ensures size { result ≡ length (varint n) }
