@@ -1,10 +1,10 @@
--- A front that was copied off what stands from a place on.
+-- A prefix that was copied from what stands from a place on.
 use Rattle.std.specs.Prelude.{◌≡◌, ℕ, ◌+◌, List, [], ◌++◌, take, drop}
 use Rattle.std.proofs.Common.{sym, ◌∙◌, ap}
 use Rattle.std.proofs.lemmas.List.{take-append-drop, drop-drop}
 use Rattle.std.proofs.Math.Seq.{drop-nil}
 
--- what stood there is the front that was copied and what stands behind it
+-- what stood there is the prefix that was copied and what stands behind it
 pub front_and_rest : (place n : ℕ) (bytes into : List ℕ) → take n into ≡ take n (drop place bytes)
     → drop place bytes ≡ take n into ++ drop (place + n) bytes
 front_and_rest place n bytes into front =

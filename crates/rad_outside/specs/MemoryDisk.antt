@@ -27,7 +27,7 @@ pub record State : Type 0 where
 abbrev pub new_state : List ℕ → State
 new_state bytes = record { reads = bytes; synced = bytes; ranges = [] }
 
--- after a write of these bytes, of which the first half came about where it failed
+-- after a write of these bytes, of which the first half was written where it failed
 abbrev pub written : ℕ → List ℕ → Bool → State → State
 written place bytes failed s = record {
   reads = overwritten place (part failed bytes) s.reads;

@@ -53,7 +53,9 @@ elapses_pushed first old call =
       later = omega (arith, size);
       nothing_else = λ t image low s.
           elim (cases_lt (length old) s.count) [
-            | inl last ↦ inr (subst (IsImageAfter first image) (take_all s.count new (omega (arith, size))) s.is)
+            | inl last ↦
+                let all = take_all s.count new (omega (arith, size)) in
+                inr (subst (IsImageAfter first image) all s.is)
             | inr within ↦ inl (record {
               count = s.count;
               since = s.since;

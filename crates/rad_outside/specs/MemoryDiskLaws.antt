@@ -19,7 +19,7 @@ writes_overwritten place bytes old = record {
   whole = refl;
 }
 
--- what comes about is no longer than what was to be written
+-- what was written is no longer than what was to be
 part_size : (failed : Bool) (bytes : List ℕ) → length (part failed bytes) ≤ length bytes
 part_size true bytes = omega (arith, length-take (length bytes / 2) bytes)
 part_size false bytes = omega arith

@@ -1,5 +1,5 @@
 // The calls that a disk in memory has had, and what it reads as after them.
-ghost use Rattle.std.specs.Prelude.{◌≡◌, ◌++◌, ◌∷◌, [], length, IfOk, OnOk, OnErr};
+ghost use Rattle.std.specs.Prelude.{◌≡◌, ◌++◌, ◌∷◌, [], length, is_ok, IfOk, OnOk, OnErr};
 ghost use Rattle.rad_outside.specs.MemoryDisk.{latest, overwritten, part, state_after};
 
 use crate::call::Call;
@@ -18,7 +18,7 @@ pub(crate) struct CallLog {
 impl CallLog {
     ghost use Rattle.rad_outside.specs.MemoryDisk.{new_state, synced, written, IsImage};
     ghost use Rattle.rad_outside.specs.Disks.{Follows, Torn, Within};
-    ghost use Rattle.rad_outside.specs.CallLog.{Passes, state_of};
+    ghost use Rattle.rad_outside.specs.CallLog.{Passes, moment_after, moment_of, state_of};
 
     // No calls on these bytes.
     pub(crate) fn new(alloc: Global, first: Vec<u8>) -> Self
@@ -45,6 +45,7 @@ impl CallLog {
     // Keeps a size or a read.
     pub(crate) fn look(&mut self) -> Result<(), AllocError>
         ensures same { state_of self.new ≡ state_of self.old }
+        ensures moment { moment_of self.new ≡ moment_after (is_ok result) self.old }
         ensures time { Passes self.old self.new }
     {
         self.calls.push(Call::Look)?;
@@ -60,6 +61,7 @@ impl CallLog {
             (state_of self.old).reads (state_of self.new).reads }
         ensures images { Follows (Torn place (length from.now))
             (IsImage (state_of self.old)) (IsImage (state_of self.new)) }
+        ensures moment { moment_of self.new ≡ moment_after (is_ok result) self.old }
         ensures time { Passes self.old self.new }
     {
         let copy = copy_of(self.alloc, from)?;
@@ -74,6 +76,7 @@ impl CallLog {
         ensures ok { OnOk result (state_of self.new ≡ synced failed (state_of self.old)) }
         ensures within { Within (IsImage (state_of self.new)) (IsImage (state_of self.old)) }
         ensures err { OnErr result (state_of self.new ≡ state_of self.old) }
+        ensures moment { moment_of self.new ≡ moment_after (is_ok result) self.old }
         ensures time { Passes self.old self.new }
     {
         self.calls.push(Call::Sync(failed))?;

@@ -1,4 +1,4 @@
-// What a node is handed from outside: sources, sinks and disks, in memory and real.
+//! What a node is handed from outside: sources, sinks and disks, in memory and real.
 #![tactic(auto)]
 
 mod call;

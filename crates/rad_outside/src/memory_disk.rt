@@ -1,12 +1,12 @@
 // A disk in memory, whose calls fail where a list says so. It keeps every call.
-ghost use Rattle.std.specs.Prelude.{◌≡◌, ◌≤◌, ◌↔◌, Some, false, length, IsTrue, IsOk, IfOk, OnOk};
-ghost use Rattle.std.specs.Prelude.{OnErr};
+ghost use Rattle.std.specs.Prelude.{◌≡◌, ◌≤◌, ◌↔◌, Some, false, length, is_ok, IsOk, IfOk, OnOk};
+ghost use Rattle.std.specs.Prelude.{if◌then◌else◌, OnErr};
 ghost use Rattle.std.specs.Io.{ReadsAtMost};
 ghost use Rattle.rad_outside.specs.Causes.{HasCause};
-ghost use Rattle.rad_outside.specs.FailingCalls.{FailsNext, HadCall};
+ghost use Rattle.rad_outside.specs.FailingCalls.{one_later};
 ghost use Rattle.rad_outside.specs.Disks.{Changes, Elapses, Follows, Only, ReadsAt, Torn, Within};
 ghost use Rattle.rad_outside.specs.Disks.{Writes};
-ghost use Rattle.rad_outside.specs.MemoryDisk.{IsImage};
+ghost use Rattle.rad_outside.specs.MemoryDisk.{IsImage, synced, written};
 ghost use Rattle.rad_outside.specs.MemoryDiskLaws.{reads_is_image};
 ghost use Rattle.rad_outside.specs.MemoryDiskClock.{since_counts_now, since_only_now};
 ghost use Rattle.rad_outside.specs.CallLog.{moment_of, since_of, state_of};
@@ -17,7 +17,7 @@ use crate::failing_calls::FailingCalls;
 use crate::{Disk, Failed};
 use std::alloc::{AllocError, Global};
 
-/// Bytes in memory as a disk.
+/// Bytes in memory as a disk. A call that finds no memory fails, and is not counted as a call.
 #[derive(Drop)]
 pub struct MemDisk {
     log: CallLog,
@@ -50,31 +50,27 @@ impl MemDisk {
         self.log.bytes()
     }
 
-    // Counts a call that was kept, or that is to fail. One that was not kept, or that is to fail,
-    // is a fault.
+    // Counts a call that was kept. One that was not kept, or that is to fail, is a fault.
     fn end_call(&mut self, kept: Result<(), AllocError>, to_fail: bool) -> Result<(), Failed>
         ensures ok { IsOk result ↔ (IsOk kept × (to_fail ≡ false)) }
-        ensures calls { (IsTrue to_fail ↔ FailsNext self.old.fails)
-            → HadCall self.old.fails self.new.fails result }
+        ensures calls { self.new.fails
+            ≡ (if is_ok kept then one_later self.old.fails else self.old.fails) }
         ensures cause { HasCause self.old.faults self.new.faults result }
         ensures log { self.new.log ≡ self.old.log }
     {
-        if to_fail {
+        if kept.is_ok() {
             self.fails.count_call();
+        }
+        if to_fail || kept.is_err() {
             count_fault(&mut self.faults);
             return Err(Failed);
         }
-        if kept.is_err() {
-            count_fault(&mut self.faults);
-            return Err(Failed);
-        }
-        self.fails.count_call();
         Ok(())
     }
 }
 
 impl Disk for MemDisk {
-    ghost use Rattle.rad_outside.specs.MemDisk.{fails_of};
+    ghost use Rattle.rad_outside.specs.MemDisk.{HadDiskCall};
 
     ghost reads_as = { λ d. Some (state_of d.log).reads };
 
@@ -103,11 +99,11 @@ impl Disk for MemDisk {
         ensures cause { HasCause self.old.faults self.new.faults result }
         ensures time { Elapses (moment_of self.old.log) (moment_of self.new.log)
             (since_of self.old.log) (since_of self.new.log) (IsImage (state_of self.new.log)) }
-        ensures calls { HadCall (fails_of self.old) (fails_of self.new) result }
+        ensures calls { HadDiskCall self.old self.new (λ _. state_of self.old.log) result }
     {
         let to_fail = self.fails.fails_next();
-        let kept = self.log.look();
-        self.end_call(kept, to_fail)?;
+        let looked = self.log.look();
+        self.end_call(looked, to_fail)?;
         Ok(self.bytes().len() as u64)
     }
 
@@ -120,7 +116,7 @@ impl Disk for MemDisk {
         ensures cause { HasCause self.old.faults self.new.faults result }
         ensures time { Elapses (moment_of self.old.log) (moment_of self.new.log)
             (since_of self.old.log) (since_of self.new.log) (IsImage (state_of self.new.log)) }
-        ensures calls { HadCall (fails_of self.old) (fails_of self.new) result }
+        ensures calls { HadDiskCall self.old self.new (λ _. state_of self.old.log) result }
     {
         let to_fail = self.fails.fails_next();
         let kept = self.log.look();
@@ -128,7 +124,6 @@ impl Disk for MemDisk {
         Ok(copy_from(self.bytes(), place, into))
     }
 
-    // A write that is not to fail and finds no memory leaves all as it was.
     fn write_at(&mut self, place: u64, bytes: &[u8]) -> Result<(), Failed>
         ensures written { OnOk result (Changes (Writes place bytes.now)
             (Some (state_of self.old.log).reads) (Some (state_of self.new.log).reads)) }
@@ -139,9 +134,8 @@ impl Disk for MemDisk {
         ensures cause { HasCause self.old.faults self.new.faults result }
         ensures time { Elapses (moment_of self.old.log) (moment_of self.new.log)
             (since_of self.old.log) (since_of self.new.log) (IsImage (state_of self.new.log)) }
-        ensures unwritten { OnErr result (¬ FailsNext (fails_of self.old)
-            → state_of self.new.log ≡ state_of self.old.log) }
-        ensures calls { HadCall (fails_of self.old) (fails_of self.new) result }
+        ensures calls { HadDiskCall self.old self.new
+            (λ failed. written place bytes.now failed (state_of self.old.log)) result }
     {
         let to_fail = self.fails.fails_next();
         let kept = self.log.write(place, bytes, to_fail);
@@ -157,7 +151,8 @@ impl Disk for MemDisk {
         ensures cause { HasCause self.old.faults self.new.faults result }
         ensures time { Elapses (moment_of self.old.log) (moment_of self.new.log)
             (since_of self.old.log) (since_of self.new.log) (IsImage (state_of self.new.log)) }
-        ensures calls { HadCall (fails_of self.old) (fails_of self.new) result }
+        ensures calls { HadDiskCall self.old self.new
+            (λ failed. synced failed (state_of self.old.log)) result }
     {
         let to_fail = self.fails.fails_next();
         let kept = self.log.sync(to_fail);

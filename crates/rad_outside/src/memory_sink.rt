@@ -9,7 +9,8 @@ use crate::failing_calls::FailingCalls;
 use crate::{Failed, Sink};
 use std::alloc::Global;
 
-/// Keeps in memory what it is given.
+/// Keeps in memory what it is given. A give that finds no memory fails, and is not counted as a
+/// give.
 #[derive(Drop)]
 pub struct MemSink {
     bytes: Vec<u8>,
@@ -65,7 +66,6 @@ impl Sink for MemSink {
             count_fault(&mut self.faults);
             return Err(Failed);
         }
-        // A give for which there is no memory is not counted as a call.
         match self.bytes.extend_from_slice(from) {
             Ok(()) => {
                 self.fails.count_call();

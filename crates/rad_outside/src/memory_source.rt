@@ -1,5 +1,6 @@
 // A source in memory, whose takes fail where a list says so.
-ghost use Rattle.std.specs.Prelude.{◌≡◌, ◌<◌, ◌≤◌, ◌↔◌, [], Some, IsErr, length, drop, take};
+ghost use Rattle.std.specs.Prelude.{◌≡◌, ◌<◌, ◌≤◌, ◌↔◌, [], Some, IfOk, IsErr, length, drop};
+ghost use Rattle.std.specs.Prelude.{min, take};
 ghost use Rattle.std.specs.Io.{ReadsAtMost};
 ghost use Rattle.std.specs.Io.KnownBytes.{ReadConsumes};
 ghost use Rattle.rad_outside.specs.Causes.{HasCause};
@@ -22,15 +23,16 @@ pub struct MemSource {
 }
 
 impl MemSource {
-    ghost use Rattle.rad_outside.specs.MemSource.{fails_of};
+    ghost use Rattle.rad_outside.specs.MemSource.{fails_of, piece_of};
 
-    /// A source of these bytes, of which one take gives at most `piece`. The takes that `fails`
-    /// lists, counted from 0, fail.
+    /// A source of these bytes, of which one take gives at most `piece` bytes. The takes that
+    /// `fails` lists, counted from 0, fail.
     pub fn new(bytes: Vec<u8>, piece: usize, fails: Vec<u64>) -> Self
         requires { 0 < piece }
         ensures left { ⟦<MemSource as Source>⟧.left result ≡ Some bytes.items }
         ensures faults { ⟦<MemSource as Source>⟧.faults result ≡ 0 }
         ensures fails { fails_of result ≡ record { listed = fails; had = 0 } }
+        ensures piece { piece_of result ≡ piece }
     {
         MemSource {
             bytes,
@@ -48,11 +50,10 @@ impl MemSource {
     }
 }
 
-// Copies a prefix of what is left, at most `piece` bytes of it.
+// Copies a prefix of what is left: all of it, where it is no longer than `piece` and the buffer.
 fn copy_front(left: &[u8], piece: usize, into: &mut [u8]) -> usize
     requires { 0 < piece }
-    ensures room { result ≤ length into.old }
-    ensures within { result ≤ length left.now }
+    ensures count { result ≡ min (min (length left.now) piece) (length into.old) }
     ensures front { take result into.new ≡ take result left.now }
     ensures end { result ≡ 0 → 0 < length into.new → left.now ≡ [] }
 {
@@ -62,7 +63,7 @@ fn copy_front(left: &[u8], piece: usize, into: &mut [u8]) -> usize
 }
 
 impl Source for MemSource {
-    ghost use Rattle.rad_outside.specs.MemSource.{fails_of, left_of};
+    ghost use Rattle.rad_outside.specs.MemSource.{fails_of, left_of, piece_of, rest_of};
 
     ghost left = { left_of };
 
@@ -78,6 +79,11 @@ impl Source for MemSource {
         // The calls that are listed fail, and no others.
         ensures listed { IsErr result ↔ FailsNext (fails_of self.old) }
         ensures counted { fails_of self.new ≡ one_later (fails_of self.old) }
+
+        // A take gives as many bytes as are left and the buffer holds, at most `piece`.
+        ensures given { IfOk result (λ n.
+            n ≡ min (min (length (rest_of self.old)) (piece_of self.old)) (length into.new)) }
+        ensures piece { piece_of self.new ≡ piece_of self.old }
     {
         if self.fails.fails_next() {
             self.fails.count_call();

@@ -4,7 +4,8 @@ ghost use Rattle.std.specs.Prelude.{◌≡◌, None};
 use crate::failed::count_fault;
 use crate::{Failed, Sink};
 
-/// Standard output.
+/// Standard output. A give fails where the write fails, or takes no byte of a piece that is not
+/// empty.
 #[derive(Drop)]
 pub struct StdSink<R: Print + Drop> {
     rt: R,
