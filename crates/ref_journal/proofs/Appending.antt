@@ -56,10 +56,6 @@ appended bodies body frame end next a b c before mid after f fits n t w v =
     let second : ToldStaged bodies end (frame_of body) b mid = subst (λ (l : List ℕ). ToldStaged bodies end l b mid) f first in
     told_entered bodies body end next b c mid after fits place second v
 
--- no call was made
-pub leaves_none : (moment : ℕ) (since : ℕ → List ℕ → Type 0) (P : List ℕ → Type 0) → ((image : List ℕ) → since moment image → P image) → LeavesOnly moment moment since since P
-leaves_none moment since P now = record { later = omega arith; each = now; before = λ t image low is. inl is }
-
 -- what the journal is before the call
 pub is_before : (bodies : List (List ℕ)) (body : List ℕ) (end : ℕ) (a : Option (List ℕ)) (images : List ℕ → Type 0) → Stores a images bodies end
     → (image : List ℕ) → images image → HasBodiesOrOneMore bodies body image

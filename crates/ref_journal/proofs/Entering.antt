@@ -2,13 +2,14 @@
 use Rattle.std.proofs.Common.{◌≡◌, ◌≢◌, ℕ, ◌+◌, ◌-◌, ◌≤◌, min, List, [], ◌∷◌, ◌++◌, length, get_or, take, drop, inl, inr, refl, sym, ap, subst, ◌∙◌, arith, append_assoc, length-append, take-append-drop}
 use Rattle.std.proofs.lemmas.Bool.{cases_eq}
 use Rattle.std.proofs.lemmas.List.{append-nil, drop-drop, drop_at, drop_more, nil_from_length, take_at}
+use Rattle.rad_base.proofs.EachItem.{each_more}
 use Rattle.rad_outside.specs.Disks.{Torn, Writes}
 use Rattle.ref_journal.specs.Frames.{IsBody, frame_of, gate_behind, header, record_of, records}
 use Rattle.ref_journal.specs.Images.{Begins, IsJournal}
 use Rattle.ref_journal.specs.Moments.{HasBodies, HasBodiesOrOneMore}
-use Rattle.ref_journal.proofs.Records.{bodies-push, text-push}
+use Rattle.ref_journal.proofs.Records.{text-push}
 
--- the place is the end, so a prefix of it is the records
+-- the bytes before the place are the header and the records
 pub front_of : (bodies : List (List ℕ)) (place : ℕ) (rest bytes : List ℕ) → Begins bodies place rest bytes → take place bytes ≡ header ++ records bodies
 front_of bodies place rest bytes b = ap (take place) b.text ∙ take_at (header ++ records bodies) rest place (sym b.place_is)
 
@@ -45,13 +46,13 @@ pub record Staged (bodies : List (List ℕ)) (end : ℕ) (frame bytes : List ℕ
   pub closed : gate ≢ 1
   pub begins : Begins bodies end (gate ∷ (frame ++ back)) bytes
 
--- one cell more
+-- one byte more
 take_one_more : (front back : List ℕ) (gate : ℕ) → take (length front + 1) (front ++ gate ∷ back) ≡ front ++ gate ∷ []
 take_one_more front back gate =
     ap (take (length front + 1)) (sym (append_assoc front (gate ∷ []) back))
     ∙ take_at (front ++ gate ∷ []) back (length front + 1) (omega (arith, length-append front (gate ∷ [])))
 
--- a front with one cell more is kept by what stands behind it
+-- the bytes up to the end gate, with it
 front_and_gate : (bodies : List (List ℕ)) (end gate : ℕ) (unread bytes : List ℕ) → Begins bodies end (gate ∷ unread) bytes
     → take (end + 1) bytes ≡ (header ++ records bodies) ++ gate ∷ []
 front_and_gate bodies end gate unread bytes b =
@@ -86,7 +87,7 @@ opened bodies body end back bytes b fits =
       unread = back;
       closed = λ e. omega (arith, e);
       begins = record {
-        fit = bodies-push bodies body b.fit fits;
+        fit = each_more IsBody bodies body b.fit fits;
         text = b.text ∙ regroup front (record_of body) back ∙ ap (λ (l : List ℕ). l ++ (0 ∷ back)) (sym (text-push bodies body));
         place_is = refl;
       };
@@ -137,8 +138,8 @@ torn_gate bodies body end old new s fits t =
     let begins = begins_so bodies end (s.gate ∷ rest) old new s.begins same in
     let behind : drop (end + 1) new ≡ rest = t.after ∙ sym (drop-drop 1 end old) ∙ ap (drop 1) (rest_of bodies end (s.gate ∷ rest) old s.begins) in
     let gate = get_or new end 0 in
-    let cell : drop end new ≡ gate ∷ rest = drop_more new end 0 (omega (arith, size, t.no_shorter)) ∙ ap (λ (l : List ℕ). gate ∷ l) behind in
-    let whole : Begins bodies end (gate ∷ rest) new = subst (λ (l : List ℕ). Begins bodies end l new) cell begins in
+    let tail : drop end new ≡ gate ∷ rest = drop_more new end 0 (omega (arith, size, t.no_shorter)) ∙ ap (λ (l : List ℕ). gate ∷ l) behind in
+    let whole : Begins bodies end (gate ∷ rest) new = subst (λ (l : List ℕ). Begins bodies end l new) tail begins in
     elim (cases_eq gate 1) [
       | inl open_ ↦ inr (opened bodies body end s.back new (subst (λ (g : ℕ). Begins bodies end (g ∷ rest) new) open_ whole) fits)
       | inr closed ↦ inl (record {

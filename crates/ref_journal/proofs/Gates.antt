@@ -15,15 +15,15 @@ one_byte bytes place gate inside stands =
     let same : get_or bytes place 0 ≡ gate = ap (λ (l : List ℕ). get_or l 0 0) (ap (take 1) (sym whole) ∙ stands) in
     whole ∙ ap (λ (n : ℕ). n ∷ drop (place + 1) bytes) same
 
--- a list of one cell
-one_cell : (xs : List ℕ) → length xs ≡ 1 → get_or xs 0 0 ≡ 1 → xs ≡ 1 ∷ []
-one_cell [] e h = absurd (omega arith)
-one_cell (x ∷ []) e h = ap (λ (n : ℕ). n ∷ []) h
-one_cell (x ∷ y ∷ xs) e h = absurd (omega arith)
+-- a list of one byte
+only_one : (xs : List ℕ) → length xs ≡ 1 → get_or xs 0 0 ≡ 1 → xs ≡ 1 ∷ []
+only_one [] e h = absurd (omega arith)
+only_one (x ∷ []) e h = ap (λ (n : ℕ). n ∷ []) h
+only_one (x ∷ y ∷ xs) e h = absurd (omega arith)
 
 -- an open gate
 open_byte : (bytes gate : List ℕ) (place : ℕ) → place < length bytes → length gate ≡ 1 → get_or gate 0 0 ≡ 1 → StandsAt bytes place gate → drop place bytes ≡ 1 ∷ drop (place + 1) bytes
-open_byte bytes gate place inside one opened stands = one_byte bytes place 1 inside (subst (StandsAt bytes place) (one_cell gate one opened) stands)
+open_byte bytes gate place inside one opened stands = one_byte bytes place 1 inside (subst (StandsAt bytes place) (only_one gate one opened) stands)
 
 -- a length over the limit, or past the end of the disk
 pub shows_broken : (known later : Option (List ℕ)) (gate : List ℕ) (place size len : ℕ) → Keeps known later → place < size

@@ -1,34 +1,16 @@
 -- What callers of a journal want of what it holds.
-use Rattle.std.proofs.Common.{◌≡◌, ℕ, List, [], Option, None, Some, sym, subst, ◌∙◌, refl}
+use Rattle.std.proofs.Common.{ℕ, List, [], Option, None, Some, sym, subst}
 use Rattle.std.specs.Prelude.{IfSome}
-use Rattle.std.specs.Io.KnownBytes.{Keeps}
-use Rattle.rad_outside.specs.Disks.{Only, Within}
+use Rattle.rad_outside.specs.Disks.{Only}
 use Rattle.ref_journal.specs.Holds.{Stores}
-use Rattle.ref_journal.specs.Images.{IsDamagedAt, IsJournal, IsUnmade}
+use Rattle.ref_journal.specs.Images.{IsDamagedAt, IsJournal}
 use Rattle.ref_journal.specs.Moments.{HasBodies}
-use Rattle.ref_journal.proofs.OneReading.{journal_is_made, journal_is_whole, one_journal}
+use Rattle.ref_journal.proofs.OneReading.{journal_is_whole, one_journal}
 
 -- each image that a crash now may leave is the journal
 pub stored_image : (reads : Option (List ℕ)) (images : List ℕ → Type 0) (bodies : List (List ℕ)) (end : ℕ) → Stores reads images bodies end
     → (image : List ℕ) → images image → IsJournal bodies end image
 stored_image reads images bodies end s image is = subst (IsJournal bodies end) (sym (s.only image is)) s.text
-
--- what the disk reads as is the journal
-pub stored_text : (reads : Option (List ℕ)) (images : List ℕ → Type 0) (bodies : List (List ℕ)) (end : ℕ) → Stores reads images bodies end
-    → IfSome reads (λ bytes. IsJournal bodies end bytes)
-stored_text None images bodies end s = tt
-stored_text (Some bytes) images bodies end s =
-    let same : s.bytes ≡ bytes = let some = s.told in cc in
-    subst (IsJournal bodies end) same s.text
-
--- a call that only reads leaves what is stored
-pub stored_on : (a b : Option (List ℕ)) (before after : List ℕ → Type 0) (bodies : List (List ℕ)) (end : ℕ) → Stores a before bodies end
-    → Keeps a b → Within after before → Stores b after bodies end
-stored_on None b before after bodies end s k w = absurd (let none = s.told in cc)
-stored_on (Some old) None before after bodies end s k w = absurd k
-stored_on (Some old) (Some new) before after bodies end s k w =
-    let same : s.bytes ≡ new = let some = s.told in cc in
-    record { bytes = new; told = refl; text = subst (IsJournal bodies end) same s.text; only = λ image is. s.only image (w image is) ∙ same }
 
 -- each image that a crash now may leave is a journal of the stored bodies
 pub stored_bodies : (reads : Option (List ℕ)) (images : List ℕ → Type 0) (bodies : List (List ℕ)) (end : ℕ) → Stores reads images bodies end
@@ -50,9 +32,3 @@ pub damaged_is_none : (known : Option (List ℕ)) (place : ℕ) (images : List �
     → IfSome known (λ bytes. (bodies : List (List ℕ)) (end : ℕ) → IsJournal bodies end bytes → ⊥)
 damaged_is_none None place images d = tt
 damaged_is_none (Some bytes) place images d = λ bodies end j. journal_is_whole bytes bodies end place j d.0
-
--- nor did one that tells that none is made
-pub unmade_is_none : (known : Option (List ℕ)) (images : List ℕ → Type 0) → IfSome known (λ bytes. IsUnmade bytes × Only bytes images)
-    → IfSome known (λ bytes. (bodies : List (List ℕ)) (end : ℕ) → IsJournal bodies end bytes → ⊥)
-unmade_is_none None images u = tt
-unmade_is_none (Some bytes) images u = λ bodies end j. journal_is_made bytes bodies end j u.0

@@ -4,12 +4,13 @@ use Rattle.std.proofs.lemmas.List.{drop-drop, drop_at, take_all, take_at}
 use Rattle.std.specs.Prelude.{IfSome, unwrap_or}
 use Rattle.std.specs.Int.{to_be_bytes, w64}
 use Rattle.std.specs.Io.KnownBytes.{Keeps}
+use Rattle.rad_base.proofs.EachItem.{each_between}
 use Rattle.rad_outside.specs.Disks.{ReadsAt}
-use Rattle.ref_journal.specs.Frames.{gate_behind, header, record_of, records}
+use Rattle.ref_journal.specs.Frames.{IsBody, gate_behind, header, record_of, records}
 use Rattle.ref_journal.specs.Images.{IsJournal}
 use Rattle.ref_journal.specs.Gates.{HasBody, IsNumberAt}
 use Rattle.ref_journal.proofs.EightBytes.{length-to_be_bytes_8, one_number}
-use Rattle.ref_journal.proofs.Records.{body_among, length-record_of, record_parts, records-append, text-push}
+use Rattle.ref_journal.proofs.Records.{length-record_of, record_parts, records-append, text-push}
 
 -- the disk has the whole record
 record_inside : (bytes body : List ℕ) (place : ℕ) → HasBody bytes place body → place + 9 + length body ≤ length bytes
@@ -60,7 +61,7 @@ has_body before after body bytes place end j at =
     let text : bytes ≡ front ++ (record_of body ++ (back ++ rest)) =
     j.begins.text ∙ ap (λ (l : List ℕ). l ++ rest) all ∙ append_assoc front (record_of body ++ back) rest ∙ ap (λ (l : List ℕ). front ++ l) (append_assoc (record_of body) back rest) in (
       record {
-        fits = body_among before after body j.begins.fit;
+        fits = each_between IsBody before body after j.begins.fit;
         behind = back ++ rest;
         text = ap (drop place) text ∙ drop_at front (record_of body ++ (back ++ rest)) place (sym at);
       },

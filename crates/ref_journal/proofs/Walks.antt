@@ -1,27 +1,16 @@
 -- The walk over the gates.
-use Rattle.std.proofs.Common.{Bool, true, false, ◌≡◌, ℕ, List, [], ◌∷◌, ◌++◌, length, take, drop, Option, None, Some, inr, refl, sym, ap, subst, ◌∙◌, arith, append_assoc, length-append, take-append-drop}
+use Rattle.std.proofs.Common.{◌≡◌, ℕ, List, [], ◌∷◌, ◌++◌, length, take, drop, Option, None, Some, inr, refl, sym, ap, subst, ◌∙◌, arith, append_assoc, length-append, take-append-drop}
 use Rattle.std.specs.Prelude.{IfSome}
-use Rattle.std.specs.Bool.{OnTrue}
 use Rattle.std.specs.Io.KnownBytes.{Keeps}
-use Rattle.ref_journal.specs.Frames.{header, record_of, records}
+use Rattle.std.proofs.KnownBytes.{Keeps-refl, Keeps-trans}
+use Rattle.rad_base.proofs.EachItem.{each_more}
+use Rattle.ref_journal.specs.Frames.{IsBody, header, record_of, records}
 use Rattle.ref_journal.specs.Images.{Begins}
 use Rattle.ref_journal.specs.Gates.{IsBrokenGate, IsClosed, IsGate, IsOpen, IsShown}
 use Rattle.ref_journal.specs.Holds.{OnlyReads}
 use Rattle.ref_journal.specs.declared.gate.Gate.TheVariants.{Broken, Closed, Open}
 use Rattle.ref_journal.specs.declared.walk.Shown.TheVariants.{Damaged, End}
-use Rattle.ref_journal.proofs.Records.{bodies-push, length-record_of, text-push}
-
--- what a test that came out true shows
-pub from_true : (b : Bool) (P : Type 0) → b ≡ true → OnTrue b P → P
-from_true true P e h = h
-from_true false P e h = cc
-
--- what is kept twice is kept
-pub keeps_on : (a b c : Option (List ℕ)) → Keeps a b → Keeps b c → Keeps a c
-keeps_on None b c h k = tt
-keeps_on (Some xs) None c h k = absurd h
-keeps_on (Some xs) (Some ys) None h k = absurd k
-keeps_on (Some xs) (Some ys) (Some zs) h k = k ∙ h
+use Rattle.ref_journal.proofs.Records.{length-record_of, text-push}
 
 -- two calls that only read
 pub only_reads_on : {D : Type 0} (loan faults : D → ℕ) (reads : D → Option (List ℕ)) (images : D → List ℕ → Type 0) (a b c : D)
@@ -29,7 +18,7 @@ pub only_reads_on : {D : Type 0} (loan faults : D → ℕ) (reads : D → Option
 only_reads_on loan faults reads images a b c h k = record {
   stays = k.stays ∙ h.stays;
   later = omega (arith, h.later, k.later);
-  same = keeps_on (reads a) (reads b) (reads c) h.same k.same;
+  same = Keeps-trans (reads a) (reads b) (reads c) h.same k.same;
   within = λ image is. h.within image (k.within image is);
 }
 
@@ -39,13 +28,9 @@ pub only_reads_none : {D : Type 0} (loan faults : D → ℕ) (reads : D → Opti
 only_reads_none loan faults reads images a = record {
   stays = refl;
   later = omega arith;
-  same = keeps_none (reads a);
+  same = Keeps-refl (reads a);
   within = λ image is. is;
 }
-  where
-    keeps_none : (a : Option (List ℕ)) → Keeps a a
-    keeps_none None = tt
-    keeps_none (Some xs) = refl
 
 -- the bytes are a journal's up to the gate at this place
 pub record Walked (bytes : List ℕ) (place : ℕ) : Type 0 where
@@ -70,7 +55,7 @@ walked_on bytes place next w o =
     record {
       bodies = w.bodies ++ o.body ∷ [];
       begins = record {
-        fit = bodies-push w.bodies o.body w.begins.fit o.fits;
+        fit = each_more IsBody w.bodies o.body w.begins.fit o.fits;
         text =
             w.begins.text ∙ ap (λ (l : List ℕ). front ++ l) o.text ∙ sym (append_assoc front (record_of o.body) (drop next bytes))
             ∙ ap (λ (l : List ℕ). l ++ drop next bytes) (sym more);

@@ -1,5 +1,6 @@
 -- What bytes are: a journal of a list of bodies, no journal yet, or damaged at a place.
-use Rattle.std.specs.Prelude.{◌≡◌, ◌≢◌, ◌⊎◌, ℕ, ◌+◌, ◌<◌, ◌≤◌, ◌^◌, List, ◌∷◌, ◌++◌, length, take, slice_index}
+use Rattle.std.specs.Prelude.{◌≡◌, ◌≢◌, ◌⊎◌, ℕ, ◌+◌, ◌<◌, ◌≤◌, ◌^◌, List, ◌∷◌, ◌++◌, length}
+use Rattle.std.specs.Prelude.{take, slice_index}
 use Rattle.std.specs.Int.{to_be_bytes, w64}
 use Rattle.ref_journal.specs.Frames.{AreBodies, gate_behind, header, records}
 
@@ -9,7 +10,8 @@ pub record Begins (bodies : List (List ℕ)) (place : ℕ) (rest bytes : List �
   pub text : bytes ≡ (header ++ records bodies) ++ rest
   pub place_is : place ≡ gate_behind bodies
 
--- the bytes are a journal of these bodies, whose end gate stands at this place: what follows it is unread
+-- the bytes are a journal of these bodies, whose end gate stands at this place: what follows it is
+-- unread
 pub record IsJournal (bodies : List (List ℕ)) (end : ℕ) (bytes : List ℕ) : Type 0 where
   pub gate : ℕ
   pub unread : List ℕ
@@ -34,7 +36,9 @@ pub record Spells (size : ℕ) (bytes : List ℕ) : Type 0 where
 
 -- these bytes behind an open gate begin with a length over the limit, or end before the next gate
 abbrev pub IsBroken : List ℕ → Type 0
-IsBroken rest = (length rest < 9) ⊎ ((size : ℕ) × Spells size rest × ((34000000 < size) ⊎ (length rest < 9 + size)))
+IsBroken rest =
+    (length rest < 9)
+    ⊎ ((size : ℕ) × Spells size rest × ((34000000 < size) ⊎ (length rest < 9 + size)))
 
 -- the records are whole up to an open gate at this place, and what stands behind it is broken
 pub record HasBrokenRecord (place : ℕ) (bytes : List ℕ) : Type 0 where

@@ -5,7 +5,8 @@ use Rattle.ref_journal.specs.Frames.{gate_behind}
 use Rattle.ref_journal.specs.Images.{IsJournal}
 
 -- a crash at any moment since the first leaves an image that has P
-pub record LeavesOnly (moment now : ℕ) (past since : ℕ → List ℕ → Type 0) (P : List ℕ → Type 0) : Type 0 where
+pub record LeavesOnly (moment now : ℕ) (past since : ℕ → List ℕ → Type 0)
+    (P : List ℕ → Type 0) : Type 0 where
   pub later : moment ≤ now
   pub each : (image : List ℕ) → since moment image → P image
   -- for a run that began earlier
@@ -17,16 +18,19 @@ HasBodies bodies image = IsJournal bodies (gate_behind bodies) image
 
 -- the image is a journal of these bodies, with one more or without it
 abbrev pub HasBodiesOrOneMore : List (List ℕ) → List ℕ → List ℕ → Type 0
-HasBodiesOrOneMore bodies body image = HasBodies bodies image ⊎ HasBodies (bodies ++ body ∷ []) image
+HasBodiesOrOneMore bodies body image =
+    HasBodies bodies image ⊎ HasBodies (bodies ++ body ∷ []) image
 
 -- one of these images after a torn write of so many bytes at a place
 abbrev pub TornOf : ℕ → ℕ → (List ℕ → Type 0) → List ℕ → Type 0
 TornOf place n images image = (before : List ℕ) × images before × Torn place n before image
 
 -- a crash at any moment since the first leaves one of these images, as it was or after a torn write
-pub record LeavesTorn (place n moment now : ℕ) (past since : ℕ → List ℕ → Type 0) (images : List ℕ → Type 0) : Type 0 where
+pub record LeavesTorn (place n moment now : ℕ) (past since : ℕ → List ℕ → Type 0)
+    (images : List ℕ → Type 0) : Type 0 where
   pub later : moment ≤ now
-  pub before : (t : ℕ) (image : List ℕ) → t ≤ moment → since t image → past t image ⊎ TornOf place n images image
+  pub before : (t : ℕ) (image : List ℕ)
+      → t ≤ moment → since t image → past t image ⊎ TornOf place n images image
 
 -- new is old with these bytes at this place, and a crash now leaves nothing else
 abbrev pub WritesDurably : ℕ → List ℕ → (List ℕ → Type 0) → List ℕ → List ℕ → Type 0

@@ -25,9 +25,14 @@ HasOpenCause before faults (DiskFault disk) = Rose before (faults disk)
 HasOpenCause before faults (Unmade disk) = Unit {0}
 HasOpenCause before faults (Damaged disk place) = Unit {0}
 
--- the answer says what these bytes are, and a crash now leaves them alone. A disk fault says nothing
-abbrev pub IsOpened : {D : Type 0} → (D → Option (List ℕ)) → (D → List ℕ → Type 0) → List ℕ → Result (Journal D) (OpenFault D) → Type 0
-IsOpened reads images bytes (Ok journal) = (bodies : List (List ℕ)) × IsJournal bodies journal.end bytes × Holds reads images journal bodies
+-- The answer says what these bytes are, and a crash now leaves exactly these bytes. A disk fault
+-- says nothing.
+abbrev pub IsOpened : {D : Type 0} → (D → Option (List ℕ)) → (D → List ℕ → Type 0) → List ℕ
+    → Result (Journal D) (OpenFault D) → Type 0
+IsOpened reads images bytes (Ok journal) =
+    (bodies : List (List ℕ)) × IsJournal bodies journal.end bytes
+    × Holds reads images journal bodies
 IsOpened reads images bytes (Err (DiskFault disk)) = Unit {0}
 IsOpened reads images bytes (Err (Unmade disk)) = IsUnmade bytes × Only bytes (images disk)
-IsOpened reads images bytes (Err (Damaged disk place)) = IsDamagedAt place bytes × Only bytes (images disk)
+IsOpened reads images bytes (Err (Damaged disk place)) =
+    IsDamagedAt place bytes × Only bytes (images disk)

@@ -1,10 +1,5 @@
 // Why a call of a journal is refused.
 ghost use Rattle.std.specs.Prelude.{◌≡◌};
-ghost use Rattle.ref_journal.specs.declared.faults.AppendFault.TheVariants.{};
-ghost use Rattle.ref_journal.specs.declared.faults.AppendFault.TheVariants.{DiskFault as AppendDiskFault};
-ghost use Rattle.ref_journal.specs.declared.faults.ScanFault.TheVariants.{};
-ghost use Rattle.ref_journal.specs.declared.faults.ScanFault.TheVariants.{DiskFault as ScanDiskFault};
-ghost use Rattle.ref_journal.specs.declared.faults.ScanFault.TheVariants.{NoMemory as ScanNoMemory};
 
 use rad_outside::Failed;
 use std::alloc::AllocError;
@@ -16,7 +11,8 @@ pub enum OpenFault<D> {
     DiskFault(D),
     /// The disk has fewer than 9 bytes, or its first is not 1.
     Unmade(D),
-    /// The least place at which the bytes are no journal: 0, the header; else, a gate.
+    /// The least place at which the bytes are no journal: 0 for the header, else the place of a
+    /// gate, in bytes from 0.
     Damaged(D, u64),
 }
 
@@ -39,7 +35,9 @@ pub enum ScanFault {
 }
 
 impl From<Failed> for AppendFault {
-    ghost from_gives = { λ _ fault. fault ≡ AppendDiskFault };
+    ghost use Rattle.ref_journal.specs.declared.faults.AppendFault.TheVariants.{DiskFault};
+
+    ghost from_gives = { λ _ fault. fault ≡ DiskFault };
 
     fn from(_: Failed) -> Self {
         AppendFault::DiskFault
@@ -47,7 +45,9 @@ impl From<Failed> for AppendFault {
 }
 
 impl From<Failed> for ScanFault {
-    ghost from_gives = { λ _ fault. fault ≡ ScanDiskFault };
+    ghost use Rattle.ref_journal.specs.declared.faults.ScanFault.TheVariants.{DiskFault};
+
+    ghost from_gives = { λ _ fault. fault ≡ DiskFault };
 
     fn from(_: Failed) -> Self {
         ScanFault::DiskFault
@@ -55,7 +55,9 @@ impl From<Failed> for ScanFault {
 }
 
 impl From<AllocError> for ScanFault {
-    ghost from_gives = { λ _ fault. fault ≡ ScanNoMemory };
+    ghost use Rattle.ref_journal.specs.declared.faults.ScanFault.TheVariants.{NoMemory};
+
+    ghost from_gives = { λ _ fault. fault ≡ NoMemory };
 
     fn from(_: AllocError) -> Self {
         ScanFault::NoMemory

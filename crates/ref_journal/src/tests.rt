@@ -1,5 +1,6 @@
 // Journals by their bytes, and a disk that is lent.
-ghost use Rattle.std.specs.Prelude.{◌≡◌, ◌≤◌, ◌++◌, ◌∷◌, [], List, ℕ, IfNone, IfOk, IfSome, IsErrOf, OnOk, OnSome};
+ghost use Rattle.std.specs.Prelude.{◌≡◌, ◌≤◌, ◌++◌, ◌∷◌, [], List, ℕ, IfNone, IfOk, IfSome};
+ghost use Rattle.std.specs.Prelude.{IsErrOf, OnOk, OnSome};
 ghost use Rattle.rad_base.specs.Faults.{Rose};
 ghost use Rattle.ref_journal.specs.Holds.{Holds};
 ghost use Rattle.ref_journal.specs.Images.{IsJournal};
