@@ -36,7 +36,7 @@ pub(crate) fn number_at<D: Disk>(disk: &mut D, place: u64) -> Result<Option<u64>
 }
 
 // The number that eight bytes spell, the most significant first.
-fn number_of(long: &[u8; 8]) -> u64
+pub(crate) fn number_of(long: &[u8; 8]) -> u64
     ensures { to_be_bytes w64 result ≡ long.now }
 {
     u64::from_be_bytes(*long)
