@@ -1,6 +1,8 @@
 // The program of a node: the command that its words give, over real files.
 #![tactic(auto)]
 
+ghost use Rattle.std.specs.Prelude.{◌≡◌};
+
 mod bundle;
 mod commit;
 mod document;
@@ -36,6 +38,7 @@ pub use local::run_local;
 use rad_outside::{FileDisk, FileSource, StdSink};
 pub use status::{Status, WhichSource};
 use std::env;
+use std::io::ErrorKind;
 use std::process::ExitCode;
 
 const HELP: &str = "\
@@ -53,11 +56,24 @@ bundle alone: one remote, one commit.
 
 const VERSION: &str = "rad_node 0.1.0\n";
 
+// How a run ends whose words cannot be read: memory was refused, or a word is not UTF-8.
+fn refused(kind: ErrorKind) -> Status
+    ensures memory { kind ≡ ErrorKind.OutOfMemory → result ≡ Status.NoMemory }
+    ensures other { (kind ≡ ErrorKind.OutOfMemory → ⊥) → result ≡ Status.Unbuilt }
+{
+    if kind == ErrorKind::OutOfMemory {
+        Status::NoMemory
+    } else {
+        Status::Unbuilt
+    }
+}
+
 // The words behind the program's name. A word that is not UTF-8 is refused.
 fn words_of(rt: &HostRuntime) -> Result<Vec<String>, Status> {
     let mut words = Vec::new(rt.alloc());
-    let Ok(args) = env::args(rt) else {
-        return Err(Status::Unbuilt);
+    let args = match env::args(rt) {
+        Ok(args) => args,
+        Err(error) => return Err(refused(error.kind())),
     };
     for word in args.skip(1) {
         if words.push(word).is_err() {
