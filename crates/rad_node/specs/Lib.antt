@@ -1,4 +1,5 @@
 pub mod Bundle
+pub mod Ends
 pub mod Entries
 pub mod Form
 pub mod Heads
