@@ -14,7 +14,8 @@ pub(crate) fn document_of(alloc: Global, node: &Nid) -> Result<Vec<u8>, NoMemory
     text.extend_from_slice(b"{\"delegates\":[\"did:key:fed01")?;
     push_hex(&mut text, &node.0)?;
     text.extend_from_slice(
-        b"\"],\"payload\":{\"xyz.radicle.project\":{\"defaultBranch\":\"master\",\"description\":\"\",\"name\":\"gen\"}},\"threshold\":1}",
+        b"\"],\"payload\":{\"xyz.radicle.project\":{\
+          \"defaultBranch\":\"master\",\"description\":\"\",\"name\":\"gen\"}},\"threshold\":1}",
     )?;
     Ok(text)
 }

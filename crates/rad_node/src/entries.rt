@@ -83,8 +83,8 @@ fn install_of(
 }
 
 impl Form<'_> {
-    /// The bodies of the entries that the form's import appends, in their order. Each fits a record of
-    /// the journal.
+    /// The bodies of the entries that the form's import appends, in their order. Each fits a record
+    /// of the journal.
     pub(crate) fn entries(&self, alloc: Global) -> Result<Vec<Bytes>, NoMemory>
         requires { IsForm (form_one self.now) }
         ensures bodies { IfOk result (λ entries. entries.items ≡ entries_of (form_one self.now)) }

@@ -1,4 +1,4 @@
-// The test of form one: the smallest bundle, of one remote with one ref, and the keyring file for it.
+// The test of form one: the smallest bundle, of one remote with one ref, and its keyring file.
 ghost use Rattle.std.specs.Prelude.{IfOk, IfSome, IfNone};
 ghost use Rattle.rad_node.specs.Form.{FormOne, IsFormOne};
 ghost use Rattle.rad_node.specs.Parts.{form_one};

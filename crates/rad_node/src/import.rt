@@ -3,7 +3,8 @@ ghost use Rattle.std.specs.Prelude.{◌≡◌, ◌≤◌, length, IfSome};
 ghost use Rattle.std.specs.Io.KnownBytes.{Appends, Keeps};
 ghost use Rattle.rad_base.specs.Faults.{Rose};
 ghost use Rattle.rad_node.specs.Form.{FormOne, IsFormOne};
-ghost use Rattle.rad_node.specs.Imports.{Entered, HasEntered, IsCaused, IsEnd, IsSilent, IsUntouched};
+ghost use Rattle.rad_node.specs.Imports.{Entered, HasEntered, IsCaused, IsEnd};
+ghost use Rattle.rad_node.specs.Imports.{IsSilent, IsUntouched};
 ghost use Rattle.rad_node.specs.Store.{Grows};
 ghost use Rattle.rad_node.specs.Transfers.{AppendsFront};
 ghost use Rattle.rad_node.specs.Works.{AreFour};
@@ -28,15 +29,18 @@ pub(crate) fn import<D: Disk, I: Source, W: Sink>(
     ensures stays { D.loan journal.new.disk ≡ D.loan journal.old.disk }
     ensures later { D.faults journal.old.disk ≤ D.faults journal.new.disk }
     ensures cause { IsCaused result ⊥ (Rose (I.faults input.old) (I.faults input.new))
-        (Rose (D.faults journal.old.disk) (D.faults journal.new.disk)) (Rose (W.faults out.old) (W.faults out.new)) }
+        (Rose (D.faults journal.old.disk) (D.faults journal.new.disk))
+        (Rose (W.faults out.old) (W.faults out.new)) }
     ensures kept { IsUntouched result → journal.new ≡ journal.old }
     ensures silent { IsSilent result → Keeps (W.given out.old) (W.given out.new) }
     ensures unbuilt { result ≡ Status.Unbuilt → IfSome (I.left input.old) (λ bytes.
         (form : FormOne) → IsFormOne keyring.now bytes form → ⊥) }
     ensures ok { result ≡ Status.Ok → Entered keyring.now (I.left input.old)
-        (Grows D.reads_as D.images journal.old journal.new) (Appends (W.given out.old) (W.given out.new)) }
+        (Grows D.reads_as D.images journal.old journal.new)
+        (Appends (W.given out.old) (W.given out.new)) }
     ensures write { result ≡ Status.WriteFault → Entered keyring.now (I.left input.old)
-        (Grows D.reads_as D.images journal.old journal.new) (AppendsFront (W.given out.old) (W.given out.new)) }
+        (Grows D.reads_as D.images journal.old journal.new)
+        (AppendsFront (W.given out.old) (W.given out.new)) }
 {
     let bundle = match read_all(alloc, input) {
         Ok(bundle) => bundle,
@@ -58,12 +62,15 @@ fn enter<D: Disk, W: Sink>(journal: &mut Journal<D>, work: &Work, out: &mut W) -
     ensures stays { D.loan journal.new.disk ≡ D.loan journal.old.disk }
     ensures later { D.faults journal.old.disk ≤ D.faults journal.new.disk }
     ensures end { IsEnd result }
-    ensures cause { IsCaused result ⊥ ⊥ (Rose (D.faults journal.old.disk) (D.faults journal.new.disk))
+    ensures cause { IsCaused result ⊥ ⊥
+        (Rose (D.faults journal.old.disk) (D.faults journal.new.disk))
         (Rose (W.faults out.old) (W.faults out.new)) }
-    ensures grows { HasEntered result → Grows D.reads_as D.images journal.old journal.new work.now.entries.items }
+    ensures grows { HasEntered result
+        → Grows D.reads_as D.images journal.old journal.new work.now.entries.items }
     ensures silent { IsSilent result → Keeps (W.given out.old) (W.given out.new) }
     ensures ok { result ≡ Status.Ok → Appends (W.given out.old) (W.given out.new) work.now.report }
-    ensures write { result ≡ Status.WriteFault → AppendsFront (W.given out.old) (W.given out.new) work.now.report }
+    ensures write { result ≡ Status.WriteFault
+        → AppendsFront (W.given out.old) (W.given out.new) work.now.report }
 {
     match append_all(journal, &work.entries) {
         Err(Failed) => return Status::DiskFault,

@@ -15,9 +15,20 @@ use std::alloc::Global;
 
 /// Runs the command that the words give: `import <store> <keyring> <bundle>`.
 ///
-/// It tests the words, reads the keyring file, opens the store, reads the bundle, tests the form, appends the
-/// entries and gives the report, in this order. The first refusal ends it. `Unbuilt` comes exactly where the
-/// words, the keyring file, the store and the bundle are not form one.
+/// It tests the words, reads the keyring file, opens the store, reads the bundle, tests the form,
+/// appends the entries and gives the report, in this order. The first refusal ends it.
+///
+/// Form one is a bundle that offers one remote with one ref, on a commit without parents whose tree
+/// has one file, a keyring file whose one line accepts that remote's signature, and a store without
+/// entries. The bundle and the keyring file have at most 65,536 bytes each.
+///
+/// - `Ok`: the store has the entries, and the report was given.
+/// - `ReadFault`: a take from that source failed. The store is as before, and nothing was given.
+/// - `WriteFault`: the sink failed. The store has the entries, and a prefix of the report was given.
+/// - `DiskFault`: the disk failed. Nothing was given, and nothing is said of what the store has.
+/// - `NoMemory`: memory was refused. Nothing was given.
+/// - `Unbuilt`: exactly where the words are no import or the files are not form one. The store is
+///   as before, and nothing was given.
 pub fn run_local<D: Disk, S: Source, I: Source, W: Sink>(
     alloc: Global,
     words: &[String],
@@ -27,8 +38,10 @@ pub fn run_local<D: Disk, S: Source, I: Source, W: Sink>(
     out: &mut W,
 ) -> Status
     ensures cause { IsCaused result
-        (Rose (S.faults keys.old) (S.faults keys.new)) (Rose (I.faults input.old) (I.faults input.new))
-        (Rose (D.faults disk.old) (D.faults disk.new)) (Rose (W.faults out.old) (W.faults out.new)) }
+        (Rose (S.faults keys.old) (S.faults keys.new))
+        (Rose (I.faults input.old) (I.faults input.new))
+        (Rose (D.faults disk.old) (D.faults disk.new))
+        (Rose (W.faults out.old) (W.faults out.new)) }
     ensures ok { result ≡ Status.Ok → Imported words.now
         (S.left keys.old) (I.left input.old) (D.reads_as disk.old) (D.images disk.new)
         (Appends (W.given out.old) (W.given out.new)) }

@@ -1,6 +1,7 @@
 // An object of a section.
 ghost use Rattle.std.specs.Prelude.{◌≡◌, ◌∷◌, ◌++◌, ℕ, List, IfSome, IfNone};
-ghost use Rattle.rad_node.specs.Bundle.{IsContent, IsObject, Object, content_text, kind_byte, object_text};
+ghost use Rattle.rad_node.specs.Bundle.{IsContent, IsObject, Object};
+ghost use Rattle.rad_node.specs.Bundle.{content_text, kind_byte, object_text};
 ghost use Rattle.rad_node.specs.Parts.{seen};
 
 use crate::numbers::four_bytes_front;

@@ -29,7 +29,8 @@ fn roles<'a>(parts: &[Part<'a>]) -> Option<(&'a [u8], &'a [u8], (&'a [u8], &'a [
 
 // Of two blobs, where one is the refs, the other. None where neither is.
 fn beside<'a>(refs: &[u8], blobs: (&'a [u8], &'a [u8])) -> Option<&'a [u8]>
-    ensures found { IfSome result (λ other. IsBeside refs.now other.now blobs.entry.0.now blobs.entry.1.now) }
+    ensures found { IfSome result (λ other.
+        IsBeside refs.now other.now blobs.entry.0.now blobs.entry.1.now) }
     ensures none { IfNone result ((other : List ℕ)
         → IsBeside refs.now other blobs.entry.0.now blobs.entry.1.now → ⊥) }
 {
@@ -63,7 +64,8 @@ fn is_chain(signed: &Oid, commit: &[u8], tree: &[u8], refs: &[u8], signature: &[
 
 /// The signature, where these objects are the signed refs section of form one with these refs.
 pub(crate) fn signature_of<'a>(signed: &Oid, refs: &[u8], parts: &[Part<'a>]) -> Option<&'a [u8]>
-    ensures found { IfSome result (λ signature. IsSigned signed.now refs.now signature.now (objects parts.now)) }
+    ensures found { IfSome result (λ signature.
+        IsSigned signed.now refs.now signature.now (objects parts.now)) }
     ensures none { IfNone result ((signature : List ℕ)
         → IsSigned signed.now refs.now signature (objects parts.now) → ⊥) }
 {

@@ -16,17 +16,20 @@ const FIRST_GATE: u64 = 8;
 pub(crate) enum StoreFault<D> {
     /// A call of the disk failed.
     DiskFault(D),
-    /// The disk is no journal, or one that has entries.
+    /// The disk is no whole journal, or one that has entries.
     NotEmpty(D),
 }
 
-/// Opens the journal of a store that has no entries.
+/// Opens the journal of a store that has no entries. `DiskFault` where the disk failed, `NotEmpty`
+/// where the store is no journal, a damaged one or one with entries. Either gives the disk back.
 pub(crate) fn open_empty<D: Disk>(disk: D) -> Result<Journal<D>, StoreFault<D>>
     ensures reads { OnlyReads D.loan D.faults D.reads_as D.images disk (opened_disk result) }
     ensures cause { IfErr result (HasStoreCause (D.faults disk) D.faults) }
     ensures place { IfOk result (λ journal. journal.end ≡ 8) }
-    ensures empty { IfOk result (λ journal. IfSome (D.reads_as disk) (λ _. Holds D.reads_as D.images journal [])) }
-    ensures other { IfErr result (λ fault. IfSome (D.reads_as disk) (λ bytes. IsNotEmpty bytes fault)) }
+    ensures empty { IfOk result (λ journal.
+        IfSome (D.reads_as disk) (λ _. Holds D.reads_as D.images journal [])) }
+    ensures other { IfErr result (λ fault.
+        IfSome (D.reads_as disk) (λ bytes. IsNotEmpty bytes fault)) }
 {
     match Journal::open(disk) {
         Ok(journal) => {

@@ -31,7 +31,8 @@ fn roles<'a>(parts: &[Part<'a>]) -> Option<(&'a [u8], &'a [u8], &'a [u8])>
 
 // Whether the commit leads over the tree to the file.
 fn is_chain(commit: &[u8], tree: &[u8], file: &[u8]) -> bool
-    ensures { IsTrue result ↔ IsTipChain (name Kind.Commit commit.now) commit.now tree.now file.now }
+    ensures { IsTrue result
+        ↔ IsTipChain (name Kind.Commit commit.now) commit.now tree.now file.now }
 {
     if !is_root_of(commit, &name_of(Kind::Tree, tree)) {
         return false;

@@ -31,13 +31,17 @@ impl From<AllocError> for ReadFault {
     }
 }
 
-/// All bytes that a source has left. It takes one byte more than `MOST` at the most.
+/// All bytes that a source has left. It takes one byte more than `MOST` at the most. `Failed` where
+/// a take failed, `TooLong` where more than `MOST` bytes are left, `NoMemory` where memory was
+/// refused.
 pub(crate) fn read_all<S: Source>(alloc: Global, source: &mut S) -> Result<Vec<u8>, ReadFault>
     ensures later { S.faults source.old ≤ S.faults source.new }
-    ensures failed { IsErrOf result ReadFault.Failed → Rose (S.faults source.old) (S.faults source.new) }
+    ensures failed { IsErrOf result ReadFault.Failed
+        → Rose (S.faults source.old) (S.faults source.new) }
     ensures bytes { IfOk result (λ all. IfSome (S.left source.old) (λ bytes. all.items ≡ bytes)) }
     ensures few { IfOk result (λ all. length all.items ≤ 65536) }
-    ensures too_long { IsErrOf result ReadFault.TooLong → IfSome (S.left source.old) (λ bytes. 65536 < length bytes) }
+    ensures too_long { IsErrOf result ReadFault.TooLong
+        → IfSome (S.left source.old) (λ bytes. 65536 < length bytes) }
 {
     let mut all = Vec::new(alloc);
     let mut piece = zeros(alloc, MOST + 1)?;
@@ -66,9 +70,11 @@ fn take_more<S: Source>(
     all: &mut Vec<u8>,
 ) -> Result<usize, ReadFault>
     ensures later { S.faults source.old ≤ S.faults source.new }
-    ensures failed { IsErrOf result ReadFault.Failed → Rose (S.faults source.old) (S.faults source.new) }
+    ensures failed { IsErrOf result ReadFault.Failed
+        → Rose (S.faults source.old) (S.faults source.new) }
     ensures not_long { IsErrOf result ReadFault.TooLong → ⊥ }
-    ensures took { IfOk result (Took (S.left source.old) (S.left source.new) all.old.items all.new.items) }
+    ensures took { IfOk result
+        (Took (S.left source.old) (S.left source.new) all.old.items all.new.items) }
     ensures room { IfOk result (λ n. n ≤ length piece.old) }
     ensures end { 0 < length piece.old → IfOk result (λ n. n ≡ 0 → IsAtEnd (S.left source.new)) }
 {

@@ -22,7 +22,8 @@ pub(crate) fn work_of(
     bundle: &[u8],
 ) -> Result<Option<Work>, NoMemory>
     ensures found { IfOk result (λ found. IfSome found (IsWork keyring.now bundle.now)) }
-    ensures none { IfOk result (λ found. IfNone found ((form : FormOne) → IsFormOne keyring.now bundle.now form → ⊥)) }
+    ensures none { IfOk result (λ found. IfNone found ((form : FormOne)
+        → IsFormOne keyring.now bundle.now form → ⊥)) }
 {
     let Some(form) = form_of(alloc, keyring, bundle)? else {
         return Ok(None);
