@@ -27,7 +27,7 @@ IsUntouched Ok = ⊥
 IsUntouched (ReadFault which) = Unit {0}
 IsUntouched WriteFault = ⊥
 IsUntouched DiskFault = ⊥
-IsUntouched NoMemory = ⊥
+IsUntouched NoMemory = Unit {0}
 IsUntouched Unbuilt = Unit {0}
 
 -- the run ended before its report: nothing is given to the sink

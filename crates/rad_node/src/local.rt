@@ -26,9 +26,9 @@ use std::alloc::Global;
 /// - `ReadFault`: a take from that source failed. The store is as before, and nothing was given.
 /// - `WriteFault`: the sink failed. The store has the entries, and a prefix of the report was given.
 /// - `DiskFault`: the disk failed. Nothing was given, and nothing is said of what the store has.
-/// - `NoMemory`: memory was refused. Nothing was given.
-/// - `Unbuilt`: exactly where the words are no import or the files are not form one. The store is
-///   as before, and nothing was given.
+/// - `NoMemory`: memory was refused. The store is as before, and nothing was given.
+/// - `Unbuilt`: the words are no import, or the files are not form one. The store is as before, and
+///   nothing was given.
 pub fn run_local<D: Disk, S: Source, I: Source, W: Sink>(
     alloc: Global,
     words: &[String],
