@@ -1,9 +1,12 @@
 // The run of a command over what it is handed.
-ghost use Rattle.std.specs.Prelude.{◌≡◌};
+ghost use Rattle.std.specs.Prelude.{◌≡◌, [], IfSome};
 ghost use Rattle.std.specs.Io.KnownBytes.{Appends, Keeps};
 ghost use Rattle.rad_base.specs.Faults.{Rose};
+ghost use Rattle.rad_outside.specs.Disks.{Within};
+ghost use Rattle.ref_journal.specs.Moments.{HasBodies};
 ghost use Rattle.rad_node.specs.Imports.{Imported, IsCaused, IsNoForm, IsSilent, IsUntouched};
 ghost use Rattle.rad_node.specs.Transfers.{AppendsFront};
+ghost use Rattle.rad_node.specs.Words.{IsImport};
 
 use crate::import::import;
 use crate::status::{Status, WhichSource};
@@ -50,7 +53,14 @@ pub fn run_local<D: Disk, S: Source, I: Source, W: Sink>(
         (AppendsFront (W.given out.old) (W.given out.new)) }
     ensures unbuilt { result ≡ Status.Unbuilt → IsNoForm words.now
         (S.left keys.old) (I.left input.old) (D.reads_as disk.old) }
-    ensures kept { IsUntouched result → Keeps (D.reads_as disk.old) (D.reads_as disk.new) }
+    ensures words { (IsImport words.now → ⊥) → (result ≡ Status.Unbuilt)
+        × (keys.new ≡ keys.old) × (input.new ≡ input.old) × (disk.new ≡ disk.old) }
+    ensures first { result ≡ Status.ReadFault WhichSource.Keys
+        → (input.new ≡ input.old) × (disk.new ≡ disk.old) }
+    ensures store { IfSome (D.reads_as disk.old)
+        (λ bytes. (HasBodies [] bytes → ⊥) → input.new ≡ input.old) }
+    ensures kept { IsUntouched result → Keeps (D.reads_as disk.old) (D.reads_as disk.new)
+        × Within (D.images disk.new) (D.images disk.old) }
     ensures silent { IsSilent result → Keeps (W.given out.old) (W.given out.new) }
 {
     if !is_import(words) {
