@@ -1,5 +1,5 @@
 -- What an import says and leaves by its status.
-use Rattle.std.specs.Prelude.{ℕ, List, [], Option, String, IfSome}
+use Rattle.std.specs.Prelude.{◌≡◌, ℕ, List, [], Option, String, IfSome}
 use Rattle.rad_node.specs.Entries.{entries_of}
 use Rattle.rad_node.specs.Form.{FormOne, IsFormOne}
 use Rattle.rad_node.specs.Report.{report_of}
@@ -57,12 +57,14 @@ IsEnd DiskFault = Unit {0}
 IsEnd NoMemory = ⊥
 IsEnd Unbuilt = ⊥
 
--- a bundle of form one was entered and reported
+-- A bundle of form one was entered and reported. It is the source's, where that is told.
 pub record Entered
     (keyring : List ℕ) (bundle : Option (List ℕ)) (grows : List (List ℕ) → Type 0) (gave : List ℕ → Type 0)
     : Type 0 where
   pub form : FormOne
-  pub is : IfSome bundle (λ bytes. IsFormOne keyring bytes form)
+  pub bytes : List ℕ
+  pub is : IsFormOne keyring bytes form
+  pub told : IfSome bundle (λ known. bytes ≡ known)
   pub entries : grows (entries_of form)
   pub report : gave (report_of form)
 
@@ -70,15 +72,20 @@ pub record Entered
 abbrev pub LeavesOnly : List (List ℕ) → (List ℕ → Type 0) → Type 0
 LeavesOnly bodies images = (image : List ℕ) → images image → HasBodies bodies image
 
--- The words, the keyring file, the bundle and the store were form one, as far as they are told. Every image that
--- a crash now may leave has exactly the form's entries, and this was given of its report.
+-- The words were an import, and a keyring file and a bundle were form one: those of the sources, where they are
+-- told. A store that is told was empty, and every image that a crash now may leave has exactly the form's entries.
+-- This was given of the form's report.
 pub record Imported
     {A : Type 0} (words : List (String A)) (keyring bundle store : Option (List ℕ))
     (images : List ℕ → Type 0) (gave : List ℕ → Type 0)
     : Type 0 where
   pub form : FormOne
   pub command : IsImport words
-  pub is : IfSome keyring (λ file. IfSome bundle (λ bytes. IsFormOne file bytes form))
+  pub file : List ℕ
+  pub bytes : List ℕ
+  pub is : IsFormOne file bytes form
+  pub keyring_told : IfSome keyring (λ known. file ≡ known)
+  pub bundle_told : IfSome bundle (λ known. bytes ≡ known)
   pub empty : IfSome store (HasBodies [])
   pub entries : IfSome store (λ _. LeavesOnly (entries_of form) images)
   pub report : gave (report_of form)
