@@ -5,6 +5,7 @@ use Rattle.git_object.specs.declared.kind.Kind.TheVariants.{Blob, Tree, Commit, 
 use Rattle.rad_node.specs.Bundle.{Object}
 use Rattle.rad_node.specs.Kinds.{contents_of, same_kind}
 use Rattle.rad_node.specs.Orders.{InAnyOrder, TakesOut}
+use Rattle.rad_node.proofs.OnePart.{same_object}
 
 pub same_order : {X : Type 0} (xs : List X) → InAnyOrder xs xs
 unfolding InAnyOrder
@@ -180,9 +181,6 @@ stands kind content before behind [] e = none_stands kind content before behind 
 stands kind content before behind (o ∷ objects) e =
     stands_step kind content o objects behind (λ before e. stands kind content before behind objects e) (same_kind kind o.kind) refl before e
 
-pair_of : (k l : Kind) (c d : List ℕ) → k ≡ l → c ≡ d → (let o : Object = record { kind = k; content = c } in let p : Object = record { kind = l; content = d } in o ≡ p)
-pair_of k l c d e f = rw (e, f) refl
-
 kinds_left : (x : Object) (xs ys rest : List Object) → TakesOut x ys rest → InAnyOrder (contents_of x.kind xs) (contents_of x.kind rest)
     → ((kind : Kind) → InAnyOrder (contents_of kind (x ∷ xs)) (contents_of kind ys))
     → (kind : Kind) (b : Bool) → same_kind kind x.kind ≡ b → InAnyOrder (contents_of kind xs) (contents_of kind rest)
@@ -209,7 +207,7 @@ left : (x : Object) (xs ys : List Object) → length ys ≡ length (x ∷ xs) �
 unfolding InAnyOrder
 left x xs ys size h (others, (takes, more)) =
     let s = stands x.kind x.content takes.before takes.behind ys takes.stands in
-    let takes_x : TakesOut x ys s.rest = subst (λ (o : Object). TakesOut o ys s.rest) (pair_of s.object.kind x.kind s.object.content x.content s.kind_is s.content_is) s.takes in
+    let takes_x : TakesOut x ys s.rest = subst (λ (o : Object). TakesOut o ys s.rest) (same_object s.object.kind x.kind s.object.content x.content s.kind_is s.content_is) s.takes in
     let own : InAnyOrder (contents_of x.kind xs) (contents_of x.kind s.rest) = subst (λ (l : List (List ℕ)). InAnyOrder (contents_of x.kind xs) l) (takes.others ∙ sym s.others) more in
     record {
       rest = s.rest;

@@ -128,9 +128,6 @@ pub behind_last : (xs ys : List Object) (bytes behind : List ℕ) → AllByRecur
     → bytes ≡ objects_text xs ++ behind → bytes ≡ objects_text ys → (xs ≡ ys) × (behind ≡ [])
 behind_last xs ys bytes behind hx hy e f = one_section xs ys behind [] hx hy (sym e ∙ f ∙ sym (append-nil (objects_text ys)))
 
-pub behind_one : (letter : ℕ) (bytes behind rest : List ℕ) → bytes ≡ letter ∷ behind → bytes ≡ letter ∷ rest → behind ≡ rest
-behind_one letter bytes behind rest e f = ap (λ (l : List ℕ). drop 1 l) (sym e ∙ f)
-
 same_bundle : (a b : OneRemote) → head_of a ≡ head_of b → a.identity_objects ≡ b.identity_objects → a.refs_objects ≡ b.refs_objects → a.tips_objects ≡ b.tips_objects → a ≡ b
 same_bundle a b heads i r t =
     parts a.rid b.rid a.identity b.identity a.node b.node a.signed b.signed a.identity_objects b.identity_objects a.refs_objects b.refs_objects a.tips_objects b.tips_objects

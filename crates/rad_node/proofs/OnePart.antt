@@ -49,7 +49,8 @@ no_content_here bytes behind size small h bad content rest is e =
     let one = one_four size (length content) behind (content ++ rest) small (omega (arith, is)) (sym h ∙ e ∙ content_regrouped content rest) in
     bad (omega (arith, one.0, is)) (omega (arith, one.0, ap length one.1, length-append content rest))
 
-same_object : (k l : Kind) (x y : List ℕ) → k ≡ l → x ≡ y → (let o : Object = record { kind = k; content = x } in let p : Object = record { kind = l; content = y } in o ≡ p)
+-- objects of one kind and one content are one
+pub same_object : (k l : Kind) (x y : List ℕ) → k ≡ l → x ≡ y → (let o : Object = record { kind = k; content = x } in let p : Object = record { kind = l; content = y } in o ≡ p)
 same_object k l x y ek ex = rw (ek, ex) refl
 
 -- the object in front is one

@@ -3,6 +3,7 @@ use Rattle.std.specs.Prelude.{◌≡◌, ℕ, List, [], Option, String, IfSome}
 use Rattle.rad_node.specs.Entries.{entries_of}
 use Rattle.rad_node.specs.Form.{FormOne, IsFormOne}
 use Rattle.rad_node.specs.Report.{report_of}
+use Rattle.rad_outside.specs.Disks.{Within}
 use Rattle.ref_journal.specs.Moments.{HasBodies}
 use Rattle.rad_node.specs.Words.{IsImport}
 use Rattle.rad_node.specs.declared.status.Status.{Status}
@@ -68,10 +69,6 @@ pub record Entered
   pub entries : grows (entries_of form)
   pub report : gave (report_of form)
 
--- every image has the bodies
-abbrev pub LeavesOnly : List (List ℕ) → (List ℕ → Type 0) → Type 0
-LeavesOnly bodies images = (image : List ℕ) → images image → HasBodies bodies image
-
 -- The words were an import, and a keyring file and a bundle were form one: those of the sources, where they are
 -- told. A store that is told was empty, and every image that a crash now may leave has exactly the form's entries.
 -- This was given of the form's report.
@@ -87,7 +84,7 @@ pub record Imported
   pub keyring_told : IfSome keyring (λ known. file ≡ known)
   pub bundle_told : IfSome bundle (λ known. bytes ≡ known)
   pub empty : IfSome store (HasBodies [])
-  pub entries : IfSome store (λ _. LeavesOnly (entries_of form) images)
+  pub entries : IfSome store (λ _. Within images (HasBodies (entries_of form)))
   pub report : gave (report_of form)
 
 -- the words, the keyring file, the bundle and the store, all of which are told, are not form one
