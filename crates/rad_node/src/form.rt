@@ -1,5 +1,5 @@
 // The test of form one: the smallest bundle, of one remote with one ref, and its keyring file.
-ghost use Rattle.std.specs.Prelude.{IfOk, IfSome, IfNone};
+ghost use Rattle.std.specs.Prelude.{◌≤◌, length, IfOk, IfSome, IfNone};
 ghost use Rattle.rad_node.specs.Form.{FormOne, IsFormOne};
 ghost use Rattle.rad_node.specs.Parts.{form_one};
 
@@ -11,9 +11,6 @@ use crate::signed::signature_of;
 use crate::tip::tip_of;
 use rad_base::{NoMemory, Oid};
 use std::alloc::Global;
-
-/// The most bytes that a keyring file and a bundle may have.
-const MOST_INPUT: usize = 65_536;
 
 /// A bundle of form one, whose contents lie in the bundle's bytes.
 #[derive(Drop)]
@@ -31,14 +28,13 @@ pub(crate) fn form_of<'a>(
     keyring: &[u8],
     bytes: &'a [u8],
 ) -> Result<Option<Form<'a>>, NoMemory>
+    requires keyring_size { length keyring.now ≤ 65536 }
+    requires bundle_size { length bytes.now ≤ 65536 }
     ensures found { IfOk result (λ found. IfSome found
         (λ form. IsFormOne keyring.now bytes.now (form_one form))) }
     ensures none { IfOk result (λ found. IfNone found ((form : FormOne)
         → IsFormOne keyring.now bytes.now form → ⊥)) }
 {
-    if keyring.len() > MOST_INPUT || bytes.len() > MOST_INPUT {
-        return Ok(None);
-    }
     let Some(bundle) = read_bundle(alloc, bytes)? else {
         return Ok(None);
     };

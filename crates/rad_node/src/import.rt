@@ -25,7 +25,8 @@ pub(crate) fn import<D: Disk, I: Source, W: Sink>(
     input: &mut I,
     out: &mut W,
 ) -> Status
-    requires { journal.old.end ≡ 8 }
+    requires place { journal.old.end ≡ 8 }
+    requires keyring_size { length keyring.now ≤ 65536 }
     ensures stays { D.loan journal.new.disk ≡ D.loan journal.old.disk }
     ensures later { D.faults journal.old.disk ≤ D.faults journal.new.disk }
     ensures cause { IsCaused result ⊥ (Rose (I.faults input.old) (I.faults input.new))

@@ -1,5 +1,6 @@
 // One bundle from outside, by which form one is tried.
 use crate::form::form_of;
+use crate::transfer::MOST;
 use std::alloc::Global;
 use std::test::Fail;
 
@@ -71,8 +72,11 @@ pub(crate) fn bundle_in(alloc: Global, order: &[usize; 4]) -> Result<Vec<u8>, Fa
     Ok(bytes)
 }
 
-// Whether a keyring file and a bundle are form one.
+// Whether a keyring file and a bundle, each no longer than a file may be, are form one.
 fn is_form(alloc: Global, keyring: &[u8], bytes: &[u8]) -> Result<bool, Fail> {
+    if keyring.len() > MOST || bytes.len() > MOST {
+        return Err("longer than a file may be")?;
+    }
     Ok(form_of(alloc, keyring, bytes)?.is_some())
 }
 
@@ -80,6 +84,7 @@ fn is_form(alloc: Global, keyring: &[u8], bytes: &[u8]) -> Result<bool, Fail> {
 fn an_import_appends_and_reports(rt: HostRuntime) -> Result<(), Fail> {
     let alloc = rt.alloc();
     let bundle = bundle_in(alloc, &[0, 1, 2, 3])?;
+    assert!(rt; bundle.len() <= MOST);
     let form = form_of(alloc, KEYRING, &bundle)?.ok_or("no form")?;
     let report = form.report(alloc)?;
     assert_eq!(rt; report.as_slice(), REPORT);

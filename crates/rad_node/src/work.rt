@@ -1,5 +1,5 @@
 // What an import of a bundle has to do: the entries to append, and the report to give.
-ghost use Rattle.std.specs.Prelude.{◌≡◌, IfOk, IfSome, IfNone};
+ghost use Rattle.std.specs.Prelude.{◌≡◌, ◌≤◌, length, IfOk, IfSome, IfNone};
 ghost use Rattle.rad_node.specs.Form.{FormOne, IsFormOne};
 ghost use Rattle.rad_node.specs.Works.{AreSmall, IsWork};
 
@@ -21,6 +21,8 @@ pub(crate) fn work_of(
     keyring: &[u8],
     bundle: &[u8],
 ) -> Result<Option<Work>, NoMemory>
+    requires keyring_size { length keyring.now ≤ 65536 }
+    requires bundle_size { length bundle.now ≤ 65536 }
     ensures found { IfOk result (λ found. IfSome found (IsWork keyring.now bundle.now)) }
     ensures none { IfOk result (λ found. IfNone found ((form : FormOne)
         → IsFormOne keyring.now bundle.now form → ⊥)) }

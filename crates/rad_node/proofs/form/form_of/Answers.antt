@@ -1,13 +1,10 @@
-use Rattle.std.proofs.Common.{◌≡◌, arith}
+use Rattle.std.proofs.Common.{◌≡◌}
 use Rattle.rad_node.specs.Parts.{objects, one_of}
 use Rattle.rad_node.specs.Form.{refs_line}
 use Rattle.rad_node.proofs.Chains.{one_signature, one_tip}
 use Rattle.rad_node.proofs.OneForm.{moved}
 use Rattle.rad_base.proofs.Conditions.{differ}
 use Rattle.rad_node.proofs.form.form_of.Goals as goal
-
-pub returns-then-keyring-gt-MOST_INPUT-clause-none : goal.returns-then-keyring-gt-MOST_INPUT-clause-none
-returns-then-keyring-gt-MOST_INPUT-clause-none c = λ form is. omega (arith, is.keyring_size, is.bundle_size)
 
 pub returns-in_default-clause-none : goal.returns-in_default-clause-none
 returns-in_default-clause-none c = λ form is.
@@ -47,8 +44,8 @@ returns-then-not-is_accepted-clause-none c = λ form is.
 
 pub returns-clause-found : goal.returns-clause-found
 returns-clause-found c = record {
-  keyring_size = omega arith;
-  bundle_size = omega arith;
+  keyring_size = c.requires.keyring_size;
+  bundle_size = c.requires.bundle_size;
   bundle = rw c.in-Some.is at c.in_ok-bundle.ensures.found;
   identity = rw c.deref.ensures.value at (c.in_ok-has_identity.ensures.0 c.if-not-has_identity.false);
   signature = c.in-Some-signature_of.signature.now;
