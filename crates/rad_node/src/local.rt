@@ -27,7 +27,8 @@ use std::alloc::Global;
 ///
 /// - `Ok`: the store has the entries, and the report was given.
 /// - `ReadFault`: a take from that source failed. The store is as before, and nothing was given.
-/// - `WriteFault`: the sink failed. The store has the entries, and a prefix of the report was given.
+/// - `WriteFault`: the sink failed. The store has the entries, and a prefix of the report was
+///   given.
 /// - `DiskFault`: the disk failed. Nothing was given, and nothing is said of what the store has.
 /// - `NoMemory`: memory was refused. The store is as before, and nothing was given.
 /// - `Unbuilt`: the words are no import, or the files are not form one. The store is as before, and
