@@ -30,6 +30,7 @@ fn is_accepted<O: Objects>(objects: &mut O, pair: Root) -> Result<bool, GetFault
         (λ m. IfOk result (λ is. IsTrue is ↔ IsAccepted m pair)) }
     ensures kept { O.content objects.new ≡ O.content objects.old }
     ensures beside { O.beside objects.new ≡ O.beside objects.old }
+    ensures looked { O.looks objects.new ≤ O.looks objects.old + 1 }
     ensures cause { HasCause (O.content objects.old) (O.faults objects.old) (O.faults objects.new)
         result }
 {
@@ -54,6 +55,7 @@ fn meet<O: Objects, L: Ledger>(
         (λ looked. IsMet m known.now pair facts.old facts.new looked steps.old steps.new)) }
     ensures kept { O.content objects.new ≡ O.content objects.old }
     ensures beside { O.beside objects.new ≡ O.beside objects.old }
+    ensures looked { O.looks objects.new + steps.old ≤ O.looks objects.old + steps.new }
     ensures cause { HasCause (O.content objects.old) (O.faults objects.old) (O.faults objects.new)
         result }
     ensures cost { steps.new ≤ steps.old + 2 }
@@ -113,6 +115,7 @@ fn search<O: Objects, L: Ledger>(
         → steps.new ≤ steps.old + length names + sum_by (link_count m) fit + 2 * length roots.now) }
     ensures kept { O.content objects.new ≡ O.content objects.old }
     ensures beside { O.beside objects.new ≡ O.beside objects.old }
+    ensures looked { O.looks objects.new + steps.old ≤ O.looks objects.old + steps.new }
     ensures cause { HasCause (O.content objects.old) (O.faults objects.old) (O.faults objects.new)
         result }
 {
@@ -165,6 +168,7 @@ pub fn closure_beyond<O: Objects, L: Ledger>(
         → steps.new ≤ steps.old + length names + sum_by (link_count m) fit + 2 * length roots.now) }
     ensures kept { O.content objects.new ≡ O.content objects.old }
     ensures beside { O.beside objects.new ≡ O.beside objects.old }
+    ensures looked { O.looks objects.new + steps.old ≤ O.looks objects.old + steps.new }
     ensures cause { HasCause (O.content objects.old) (O.faults objects.old) (O.faults objects.new)
         result }
 {

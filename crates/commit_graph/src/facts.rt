@@ -53,6 +53,7 @@ impl Facts {
             (λ fact. IsLearned m oid self.old self.new fact steps.old steps.new)) }
         ensures kept { O.content objects.new ≡ O.content objects.old }
         ensures beside { O.beside objects.new ≡ O.beside objects.old }
+        ensures looked { O.looks objects.new + steps.old ≤ O.looks objects.old + steps.new }
         ensures cause { HasCause (O.content objects.old) (O.faults objects.old)
             (O.faults objects.new) result }
         ensures cost { steps.new ≤ steps.old + 1 }

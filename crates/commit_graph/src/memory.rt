@@ -52,6 +52,8 @@ impl Objects for MemObjects {
 
     ghost faults = { λ _. 0 };
 
+    ghost looks = { λ _. 0 };
+
     ghost Beside = { Unit {0} };
 
     ghost beside = { λ _. tt };
@@ -74,6 +76,8 @@ impl Objects for &MemObjects {
     ghost content = { λ store. Some (objects_of store.now) };
 
     ghost faults = { λ _. 0 };
+
+    ghost looks = { λ _. 0 };
 
     ghost Beside = { Unit {0} };
 

@@ -31,6 +31,8 @@ impl Objects for Counted {
 
     ghost faults = { λ _. 0 };
 
+    ghost looks = { λ counted. counted.looks };
+
     ghost Beside = { Unit {0} };
 
     ghost beside = { λ _. tt };

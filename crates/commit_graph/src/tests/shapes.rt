@@ -21,6 +21,8 @@ impl Objects for Shapes<'_> {
 
     ghost faults = { λ _. 0 };
 
+    ghost looks = { λ _. 0 };
+
     ghost Beside = { Unit {0} };
 
     ghost beside = { λ _. tt };

@@ -24,6 +24,8 @@ impl Objects for Circle {
 
     ghost faults = { λ _. 0 };
 
+    ghost looks = { λ _. 0 };
+
     ghost Beside = { Unit {0} };
 
     ghost beside = { λ _. tt };

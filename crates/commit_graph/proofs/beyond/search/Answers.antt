@@ -18,6 +18,7 @@ loop-i-init g c = record {
   kept = refl;
   beside = refl;
   rising = omega arith;
+  looked = omega arith;
   progress = λ m e. search_start m c.args.known.now c.args.roots.now c.in_ok-queue.queue.items c.new-facts.result c.args.steps.now c.in_ok-queue.ensures.items c.new-facts.ensures.facts c.new-facts.ensures.waiting;
 }
 
@@ -40,6 +41,7 @@ loop-i-preserved g c = record {
   kept = c.in_ok-meet.ensures.kept ∙ c.loop-i.invariant.kept;
   beside = c.in_ok-meet.ensures.beside ∙ c.loop-i.invariant.beside;
   rising = omega (arith, c.in_ok-meet.ensures.cause.later, c.loop-i.invariant.rising);
+  looked = omega (arith, c.in_ok-meet.ensures.looked, c.loop-i.invariant.looked);
   progress = λ m e.
       let at : slice_get c.loop-i.queue.items c.loop-i.i ≡ Some c.pair_at-pair.result = subst (λ (xs : List Root). slice_get xs c.loop-i.i ≡ Some c.pair_at-pair.result) c.deref.ensures.value c.pair_at-pair.ensures in
       search_turn c.pair_at-pair.result (c.requires m e) at (c.loop-i.invariant.progress m e)
