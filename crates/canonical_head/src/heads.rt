@@ -4,7 +4,7 @@ ghost use Rattle.std.specs.Option.{ForSome};
 ghost use Rattle.commit_graph.specs.Faults.{HasCause};
 ghost use Rattle.commit_graph.specs.Objects.{ObjectMap};
 ghost use Rattle.canonical_head.specs.Heads.{IsHead};
-ghost use Rattle.canonical_head.specs.Divergence.{IsDivergence};
+ghost use Rattle.canonical_head.specs.Divergence.{IsDivergence, rivaled_in, rivals_in};
 ghost use Rattle.canonical_head.specs.Tables.{IsTable, votes_in, candidates_in, is_top, is_beside};
 ghost use Rattle.canonical_head.specs.Tables.{has_rival, tells};
 
@@ -75,7 +75,7 @@ fn tops(alloc: Global, table: &Table, candidates: &[Oid]) -> Result<Vec<Oid>, Al
 // The candidates that have another beside them.
 fn rivaled(alloc: Global, table: &Table, candidates: &[Oid]) -> Result<Vec<Oid>, AllocError>
     ensures { IfOk result
-        (λ list. list.items ≡ filter (has_rival table.now candidates.now) candidates.now) }
+        (λ list. list.items ≡ rivaled_in table.now candidates.now) }
 {
     candidates
         .iter()
@@ -92,7 +92,7 @@ fn rivals(
     oid: &Oid,
 ) -> Result<Vec<Oid>, AllocError>
     ensures { IfOk result
-        (λ list. list.items ≡ filter (is_beside table.now oid.now) candidates.now) }
+        (λ list. list.items ≡ rivals_in table.now candidates.now oid.now) }
 {
     candidates
         .iter()
@@ -121,8 +121,9 @@ fn divergence(alloc: Global, table: &Table, candidates: &[Oid]) -> Result<Head, 
 
 // The head, as the table tells the histories.
 fn head_by(alloc: Global, table: &Table, tips: &[Oid], threshold: u8) -> Result<Head, AllocError>
-    ensures { IfOk result (λ head. (m : ObjectMap) → IsTable m tips.now table.now
+    ensures told { IfOk result (λ head. (m : ObjectMap) → IsTable m tips.now table.now
         → IsHead m tips.now threshold head) }
+    ensures branch { IfOk result (λ head. head ≡ Head.NoBranch → ⊥) }
 {
     let candidates = candidates(alloc, table, tips, threshold)?;
     let tops = tops(alloc, table, &candidates)?;
@@ -135,8 +136,12 @@ fn head_by(alloc: Global, table: &Table, tips: &[Oid], threshold: u8) -> Result<
 /// The head that enough of the tips agree on. There is one tip for each delegate that has one,
 /// which is closed as a commit; the threshold is the number of votes that make a candidate, from 1.
 ///
+/// A tip has a vote for each of the tips that has it in its history, itself included; equal tips
+/// count as often as they stand. At most 255 tips.
+///
 /// `NoQuorum` where there is no candidate; `At` the least candidate that has all candidates in its
-/// history; else `Diverging`. It never answers `NoBranch`.
+/// history; else `Diverging`. It never answers `NoBranch`. `Err` is the fault of a look-up, or
+/// `NoMemory`.
 pub fn head<O: Objects>(
     alloc: Global,
     objects: &mut O,
@@ -145,6 +150,7 @@ pub fn head<O: Objects>(
 ) -> Result<Head, GetFault>
     ensures told { ForSome (O.content objects.old)
         (λ m. IfOk result (IsHead m tips.now threshold)) }
+    ensures branch { IfOk result (λ head. head ≡ Head.NoBranch → ⊥) }
     ensures kept { O.content objects.new ≡ O.content objects.old }
     ensures beside { O.beside objects.new ≡ O.beside objects.old }
     ensures cause { HasCause (O.content objects.old) (O.faults objects.old) (O.faults objects.new)

@@ -1,6 +1,8 @@
 // The canonical head: the commit on which enough delegates agree.
 #![tactic(auto)]
 
+// `Head` is reached as `answer::Head`: an item and another whose names differ only in case, as the
+// function here, may not stand in one module.
 pub mod answer;
 mod heads;
 mod least;

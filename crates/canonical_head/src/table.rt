@@ -34,7 +34,7 @@ impl Table {
 // Those of the tips that are commits of the history.
 fn row(alloc: Global, history: &History, tips: &[Oid]) -> Result<BTreeSet<Oid>, AllocError>
     ensures { IfOk result (λ row. (old : Oid) → Contains tips.now old
-        → IsTrue (contains oid_cmp row old) ↔ HasCommit history.now.found old) }
+        → IsTrue (contains oid_cmp row old) ↔ HasCommit history.now old) }
 {
     let mut row = BTreeSet::new(alloc);
     for tip in tips {

@@ -19,7 +19,7 @@ use Rattle.commit_graph.specs.Lists.{Extends, Follows}
 use Rattle.commit_graph.specs.Pairs.{Accepts, IsMissing, IsFit, IsUnfit, pair_of}
 use Rattle.commit_graph.specs.Looks.{HasLinks}
 use Rattle.commit_graph.specs.Beyond.{IsClosedName, AllClosed, IsLinkBeyond, links_in}
-use Rattle.commit_graph.specs.Facts.{IsFormed, IsAccepted, IsFitWith, IsTaken, ShowsFact, IsMet, IsMetKnown, fact_in, waiting_in, items_of}
+use Rattle.commit_graph.specs.Facts.{IsFormed, IsAccepted, IsFitWith, IsTaken, ShowsFact, IsTested, IsTestedKnown, fact_in, waiting_in, items_of}
 use Rattle.rad_base.proofs.Members.{contains_at, contains_head, contains_nothing}
 use Rattle.commit_graph.proofs.Adding.{extends_by, extends_there, take_grown}
 use Rattle.commit_graph.proofs.Walked.{reached_root}
@@ -85,7 +85,7 @@ module _ (m : ObjectMap) (known : BTreeSet Oid) (roots : List Root) (p : Root) (
   appends_as : (s : Looked) → shown ≡ s → Appends s queue queue'
   appends_as s e = subst (λ (x : Looked). Appends x queue queue') e a
 
-  turn_known : AllClosed m known → IsMetKnown m known p old new shown before after
+  turn_known : AllClosed m known → IsTestedKnown m known p old new shown before after
       → Turn m known roots p queue queue' new missing unfit missing' unfit' looked before after
   turn_known all k =
       let w = all p.oid k.known_name in
@@ -209,7 +209,7 @@ module _ (m : ObjectMap) (known : BTreeSet Oid) (roots : List Root) (p : Root) (
       (λ b. turn_taken unknown mid (Formed kind) l kind l.is l.has b.0 b.1)
       s
 
-  turn : AllClosed m known → IsMet m known p old new shown before after
+  turn : AllClosed m known → IsTested m known p old new shown before after
       → Turn m known roots p queue queue' new missing unfit missing' unfit' looked before after
   turn all (inl k) = turn_known all k
   turn all (inr k) = turn_shown k.unknown k.mid k.fact (learned h (record { pair = p; here = here; name = refl; unknown = k.unknown }) k.learned) k.shows
@@ -218,10 +218,10 @@ module _ (m : ObjectMap) (known : BTreeSet Oid) (roots : List Root) (p : Root) (
 pub search_turn : {m : ObjectMap} {known : BTreeSet Oid} {roots : List Root} {i : ℕ} {queue queue' : List Root} {old new : Facts} {shown : Looked} {missing unfit missing' unfit' : Option Oid} {start before after : ℕ} (p : Root)
     → AllClosed m known → slice_get queue i ≡ Some p
     → Search m known roots i queue old missing unfit start before
-    → IsMet m known p old new shown before after → Notes shown p.oid missing unfit missing' unfit'
+    → IsTested m known p old new shown before after → Notes shown p.oid missing unfit missing' unfit'
     → Appends shown queue queue' → Search m known roots (i + 1) queue' new missing' unfit' start after
-search_turn {m} {known} {roots} {i} {queue} {queue'} {old} {new} {shown} {missing} {unfit} {missing'} {unfit'} {start} {before} {after} p all at h met n a =
-    let t = turn m known roots p queue queue' old new shown missing unfit missing' unfit' h.looked h.opened before after h.holds (contains_at queue i p at) n a all met in
+search_turn {m} {known} {roots} {i} {queue} {queue'} {old} {new} {shown} {missing} {unfit} {missing'} {unfit'} {start} {before} {after} p all at h tested n a =
+    let t = turn m known roots p queue queue' old new shown missing unfit missing' unfit' h.looked h.opened before after h.holds (contains_at queue i p at) n a all tested in
     record {
       looked = t.looked';
       opened = t.opened';
@@ -250,8 +250,8 @@ search_start m known roots queue facts start e known_none waiting_none = record 
     opened_taken = λ o c. waiting_none o;
     looked_once = tt;
     opened_once = tt;
-    looked_met = λ o c. absurd (contains_nothing o c);
-    opened_met = λ o c. absurd (contains_nothing o c);
+    looked_queued = λ o c. absurd (contains_nothing o c);
+    opened_queued = λ o c. absurd (contains_nothing o c);
     lengths = omega (arith, ap length e);
   };
   spread = record {

@@ -20,7 +20,7 @@ use Rattle.commit_graph.proofs.Spread.{Spread, spread_end}
 use Rattle.commit_graph.proofs.PairSteps.{one_object}
 use Rattle.commit_graph.proofs.ClosureTurns.{Covers}
 use Rattle.commit_graph.proofs.Repeats.{sum_by-le, sum_by-one}
-use Rattle.commit_graph.proofs.FactsHold.{IsMetName, IsOpenedName}
+use Rattle.commit_graph.proofs.FactsHold.{IsQueuedName, IsOpenedName}
 use Rattle.commit_graph.proofs.BeyondTurns.{Search}
 
 -- what is reached over no known name is reached
@@ -73,9 +73,9 @@ covers_beyond all h e = record {
 -- ---- the steps
 
 module _ (m : ObjectMap) (known : BTreeSet Oid) (roots : List Root) (i : ℕ) (queue : List Root) (facts : Facts) (missing unfit : Option Oid) (start ticks : ℕ) (h : Search m known roots i queue facts missing unfit start ticks) where
-  met_covered : (names : List Oid) → CoversBeyond m known roots names → (oid : Oid)
-      → IsMetName queue known oid → Contains names oid
-  met_covered names cover oid t = cover oid (record { pair = t.pair; reached = h.spread.sound t.pair t.here; name = t.name }) t.unknown
+  queued_covered : (names : List Oid) → CoversBeyond m known roots names → (oid : Oid)
+      → IsQueuedName queue known oid → Contains names oid
+  queued_covered names cover oid t = cover oid (record { pair = t.pair; reached = h.spread.sound t.pair t.here; name = t.name }) t.unknown
 
   opened_covered : (names : List Oid) → CoversFitBeyond m known roots names → (oid : Oid)
       → IsOpenedName m queue known oid → Contains names oid
@@ -85,8 +85,8 @@ module _ (m : ObjectMap) (known : BTreeSet Oid) (roots : List Root) (i : ℕ) (q
   pub cost_within : (names fit : List Oid) → CoversBeyond m known roots names → CoversFitBeyond m known roots fit
       → ticks + length queue ≤ start + i + length names + sum_by (link_count m) fit + length roots
   cost_within names fit cover cover_fit =
-      let a = sum_by-le (λ (n : Oid). 1) h.looked names h.holds.looked_once (λ n c. met_covered names cover n (h.holds.looked_met n c)) in
-      let b = sum_by-le (link_count m) h.opened fit h.holds.opened_once (λ n c. opened_covered fit cover_fit n (h.holds.opened_met n c)) in
+      let a = sum_by-le (λ (n : Oid). 1) h.looked names h.holds.looked_once (λ n c. queued_covered names cover n (h.holds.looked_queued n c)) in
+      let b = sum_by-le (link_count m) h.opened fit h.holds.opened_once (λ n c. opened_covered fit cover_fit n (h.holds.opened_queued n c)) in
       omega (arith, a, b, sum_by-one h.looked, sum_by-one names, h.cost, h.holds.lengths)
 
   -- there is a root while there is a pair

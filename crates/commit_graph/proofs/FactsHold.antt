@@ -25,14 +25,14 @@ use Rattle.rad_base.proofs.EachItem.{others_from}
 use Rattle.rad_base.proofs.Members.{contains_cases}
 use Rattle.commit_graph.proofs.Repeats.{sum_by-cons}
 
--- a pair of this name, which is not known, was met
-pub record IsMetName (queue : List Root) (known : BTreeSet Oid) (oid : Oid) : Type 0 where
+-- a pair of this name, which is not known, is in the queue
+pub record IsQueuedName (queue : List Root) (known : BTreeSet Oid) (oid : Oid) : Type 0 where
   pub pair : Root
   pub here : Contains queue pair
   pub name : pair.oid ≡ oid
   pub unknown : contains oid_cmp known oid ≡ false
 
--- a fit pair of this name, which is not known, was met
+-- a fit pair of this name, which is not known, is in the queue
 pub record IsOpenedName (m : ObjectMap) (queue : List Root) (known : BTreeSet Oid) (oid : Oid) : Type 0 where
   pub pair : Root
   pub here : Contains queue pair
@@ -51,8 +51,8 @@ pub record FactsHold (m : ObjectMap) (known : BTreeSet Oid) (roots queue : List 
   pub opened_taken : (n : Oid) → Contains opened n → waiting n ≡ None
   pub looked_once : AllDiffer looked
   pub opened_once : AllDiffer opened
-  pub looked_met : (n : Oid) → Contains looked n → IsMetName queue known n
-  pub opened_met : (n : Oid) → Contains opened n → IsOpenedName m queue known n
+  pub looked_queued : (n : Oid) → Contains looked n → IsQueuedName queue known n
+  pub opened_queued : (n : Oid) → Contains opened n → IsOpenedName m queue known n
   pub lengths : length queue ≡ length roots + sum_by (link_count m) opened
 
 -- ---- names are one or two
@@ -115,7 +115,7 @@ pub record AreLearned (m : ObjectMap) (known : BTreeSet Oid) (roots queue : List
   pub has : fact_in mid n ≡ Some fact
   pub cost : after + length looked ≡ before + length looked'
 
-module _ {m : ObjectMap} {known : BTreeSet Oid} {roots queue : List Root} {old mid : Facts} {fact : Fact} {looked opened : List Oid} {n : Oid} {before after : ℕ} (h : FactsHold m known roots queue (fact_in old) (waiting_in old) looked opened) (met : IsMetName queue known n) where
+module _ {m : ObjectMap} {known : BTreeSet Oid} {roots queue : List Root} {old mid : Facts} {fact : Fact} {looked opened : List Oid} {n : Oid} {before after : ℕ} (h : FactsHold m known roots queue (fact_in old) (waiting_in old) looked opened) (queued : IsQueuedName queue known n) where
   looked_up : IsLookedUp m n old mid fact before after
       → AreLearned m known roots queue mid fact looked opened n before after
   looked_up s =
@@ -155,8 +155,8 @@ module _ {m : ObjectMap} {known : BTreeSet Oid} {roots queue : List Root} {old m
           opened_taken = λ q c. waits_else q (fresh q (h.opened_known q c)) ∙ h.opened_taken q c;
           looked_once = (others_from n looked (λ c. h.looked_known n c s.unknown), h.looked_once);
           opened_once = h.opened_once;
-          looked_met = λ q c. ⊎_elim (λ a. subst (IsMetName queue known) a met) (λ a. h.looked_met q a) (contains_cases n looked q c);
-          opened_met = h.opened_met;
+          looked_queued = λ q c. ⊎_elim (λ a. subst (IsQueuedName queue known) a queued) (λ a. h.looked_queued q a) (contains_cases n looked q c);
+          opened_queued = h.opened_queued;
           lengths = h.lengths;
         };
       }
@@ -185,7 +185,7 @@ pub links_open : {m : ObjectMap} {known : BTreeSet Oid} {roots queue queue' : Li
     → FactsHold m known roots queue' facts' waiting' looked (n ∷ opened)
 links_open {m} {known} {roots} {queue} {queue'} {ls} {facts} {facts'} {waiting} {waiting'} {looked} {opened} {n} h here s e same after =
     let more : (r : Root) → Contains queue r → Contains queue' r = λ r c. subst (λ (xs : List Root). Contains xs r) (sym e) (Contains-append_left queue (map pair_of ls) r c) in
-    let met : (q : Oid) → IsMetName queue known q → IsMetName queue' known q = λ q t. record { pair = t.pair; here = more t.pair t.here; name = t.name; unknown = t.unknown } in
+    let queued : (q : Oid) → IsQueuedName queue known q → IsQueuedName queue' known q = λ q t. record { pair = t.pair; here = more t.pair t.here; name = t.name; unknown = t.unknown } in
     let opens : (q : Oid) → IsOpenedName m queue known q → IsOpenedName m queue' known q = λ q t. record { pair = t.pair; here = more t.pair t.here; name = t.name; unknown = t.unknown; fit = t.fit } in
     let now : waiting' n ≡ None = at_same n n None (waiting n) _ (after n) refl in
     let else' : (q : Oid) → (n ≡ q → ⊥) → waiting' q ≡ waiting q = λ q ne. at_other n q None (waiting q) _ (after q) ne in
@@ -210,8 +210,8 @@ links_open {m} {known} {roots} {queue} {queue'} {ls} {facts} {facts'} {waiting} 
           (λ b. ⊎_elim (λ d. subst (λ (k : Oid). waiting' k ≡ None) d now) (λ d. else' q d ∙ h.opened_taken q b) (one_or_two n q)) (contains_cases n opened q c);
       looked_once = h.looked_once;
       opened_once = (others_from n opened (λ c. some_none s (h.opened_taken n c)), h.opened_once);
-      looked_met = λ q c. met q (h.looked_met q c);
-      opened_met = λ q c. ⊎_elim (λ b. subst (IsOpenedName m queue' known) b (opens n here)) (λ b. opens q (h.opened_met q b)) (contains_cases n opened q c);
+      looked_queued = λ q c. queued q (h.looked_queued q c);
+      opened_queued = λ q c. ⊎_elim (λ b. subst (IsOpenedName m queue' known) b (opens n here)) (λ b. opens q (h.opened_queued q b)) (contains_cases n opened q c);
       lengths = omega (arith, h.lengths, ap length e, length-append queue (map pair_of ls), length_map pair_of ls, ap length (h.true_waiting n ls s), sum_by-cons (link_count m) n opened);
     }
 
@@ -231,8 +231,8 @@ facts_alike {m} {known} {roots} {queue} {queue'} {facts} {facts'} {waiting} {wai
       opened_taken = λ q c. f q ∙ h.opened_taken q c;
       looked_once = h.looked_once;
       opened_once = h.opened_once;
-      looked_met = h.looked_met;
-      opened_met = h.opened_met;
+      looked_queued = h.looked_queued;
+      opened_queued = h.opened_queued;
       lengths = h.lengths;
     })
 

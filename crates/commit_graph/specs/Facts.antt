@@ -96,14 +96,14 @@ ShowsFact p (Formed kind) mid new shown =
     ((Accepts p.kind kind → ⊥) × (shown ≡ looked.Unfit) × (new ≡ mid)) ⊎ (Accepts p.kind kind × IsTaken p.oid mid new shown)
 
 -- a pair of a known name was tested by the kind of its object
-pub record IsMetKnown (objects : ObjectMap) (known : BTreeSet Oid) (p : Root) (old new : Facts) (shown : Looked) (before after : ℕ) : Type 0 where
+pub record IsTestedKnown (objects : ObjectMap) (known : BTreeSet Oid) (p : Root) (old new : Facts) (shown : Looked) (before after : ℕ) : Type 0 where
   pub known_name : contains oid_cmp known p.oid ≡ true
   pub shows : (IsAccepted objects p × IsFitWith shown []) ⊎ ((IsAccepted objects p → ⊥) × (shown ≡ looked.Unfit))
   pub same : new ≡ old
   pub cost : after ≡ before + 1
 
 -- a pair of another name was tested by what is learned of its name
-pub record IsMetNew (objects : ObjectMap) (known : BTreeSet Oid) (p : Root) (old new : Facts) (shown : Looked) (before after : ℕ) : Type 0 where
+pub record IsTestedNew (objects : ObjectMap) (known : BTreeSet Oid) (p : Root) (old new : Facts) (shown : Looked) (before after : ℕ) : Type 0 where
   pub unknown : contains oid_cmp known p.oid ≡ false
   pub mid : Facts
   pub fact : Fact
@@ -111,6 +111,6 @@ pub record IsMetNew (objects : ObjectMap) (known : BTreeSet Oid) (p : Root) (old
   pub shows : ShowsFact p fact mid new shown
 
 -- what the test of a pair comes to
-abbrev pub IsMet : ObjectMap → BTreeSet Oid → Root → Facts → Facts → Looked → ℕ → ℕ → Type 0
-IsMet objects known p old new shown before after =
-    IsMetKnown objects known p old new shown before after ⊎ IsMetNew objects known p old new shown before after
+abbrev pub IsTested : ObjectMap → BTreeSet Oid → Root → Facts → Facts → Looked → ℕ → ℕ → Type 0
+IsTested objects known p old new shown before after =
+    IsTestedKnown objects known p old new shown before after ⊎ IsTestedNew objects known p old new shown before after

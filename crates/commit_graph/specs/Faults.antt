@@ -1,6 +1,7 @@
 -- Why an object could not be had.
 use Rattle.std.specs.Prelude.{◌≡◌, ℕ, ◌≤◌, List, Option, None, Result, IfErr}
 use Rattle.rad_base.specs.Faults.{Rose}
+use Rattle.rad_base.specs.declared.names.Oid.{Oid}
 use Rattle.git_object.specs.declared.kind.Kind.{Kind}
 use Rattle.git_object.specs.Names.{name}
 use Rattle.commit_graph.specs.declared.fault.Changed.{Changed}
@@ -21,6 +22,10 @@ abbrev pub IsCause : Option ObjectMap → ℕ → ℕ → GetFault → Type 0
 IsCause content before now fault.DiskFault = Rose before now
 IsCause content before now (fault.Changed change) = IsChange content change
 IsCause content before now fault.NoMemory = Unit {0}
+
+-- a change that is told is that of the name that was asked for
+abbrev pub IsAskedFor : Oid → GetFault → Type 0
+IsAskedFor oid why = (change : Changed) → why ≡ fault.Changed change → change.name ≡ oid
 
 -- the count of faults never falls, and a fault has its cause
 pub record HasCause {T : Type 0} (content : Option ObjectMap) (before now : ℕ) (result : Result T GetFault) : Type 0 where

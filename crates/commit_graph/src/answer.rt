@@ -31,7 +31,8 @@ impl Model for Chain {
 }
 
 impl Chain {
-    pub(crate) fn of(commits: Vec<Oid>) -> Self
+    /// These commits, in their vector.
+    pub fn of(commits: Vec<Oid>) -> Self
         ensures { result ≡ commits.items }
     {
         Chain { commits }
@@ -42,5 +43,12 @@ impl Chain {
         ensures { result.now ≡ self.now }
     {
         &self.commits
+    }
+
+    /// Gives the vector back.
+    pub fn into_vec(self) -> Vec<Oid>
+        ensures { result.items ≡ self }
+    {
+        self.commits
     }
 }

@@ -1,14 +1,14 @@
 // A closure that does not walk again what is known to be closed.
 ghost use Rattle.std.specs.Prelude.{◌≡◌, ◌≤◌, ◌+◌, ◌*◌, ◌++◌, ◌↔◌, ◌⊎◌, List, length, map, sum_by};
-ghost use Rattle.std.specs.Prelude.{Contains, IsTrue, IfOk, OnOk};
+ghost use Rattle.std.specs.Prelude.{Contains, IsTrue, IfOk, IfErr, OnOk};
 ghost use Rattle.std.specs.Option.{ForSome};
-ghost use Rattle.commit_graph.specs.Faults.{HasCause};
+ghost use Rattle.commit_graph.specs.Faults.{HasCause, IsAskedFor};
 ghost use Rattle.commit_graph.specs.Pairs.{pair_of};
 ghost use Rattle.commit_graph.specs.Walks.{Reached};
 ghost use Rattle.commit_graph.specs.Closures.{IsClosure};
 ghost use Rattle.commit_graph.specs.Beyond.{AllClosed, IsLinkBeyond, CoversBeyond, CoversFitBeyond};
 ghost use Rattle.commit_graph.specs.Beyond.{link_count, GrowsBeyond, Leaves};
-ghost use Rattle.commit_graph.specs.Facts.{IsAccepted, IsMet};
+ghost use Rattle.commit_graph.specs.Facts.{IsAccepted, IsTested};
 
 use crate::answer::Closure;
 use crate::closing::{answer, lesser};
@@ -31,6 +31,7 @@ fn is_accepted<O: Objects>(objects: &mut O, pair: Root) -> Result<bool, GetFault
     ensures kept { O.content objects.new ≡ O.content objects.old }
     ensures beside { O.beside objects.new ≡ O.beside objects.old }
     ensures looked { O.looks objects.new ≤ O.looks objects.old + 1 }
+    ensures asked { IfErr result (IsAskedFor pair.oid) }
     ensures cause { HasCause (O.content objects.old) (O.faults objects.old) (O.faults objects.new)
         result }
 {
@@ -41,9 +42,9 @@ fn is_accepted<O: Objects>(objects: &mut O, pair: Root) -> Result<bool, GetFault
     }
 }
 
-/// What the test of a pair shows, which is one step, with the links that are followed from it now:
-/// those of a known name never, those of another once.
-fn meet<O: Objects, L: Ledger>(
+/// Tests a pair, which is one step: what it shows, with the links that are followed from it. A known
+/// name has none, and another gives its links once.
+fn test_pair<O: Objects, L: Ledger>(
     alloc: Global,
     objects: &mut O,
     known: &BTreeSet<Oid>,
@@ -52,7 +53,7 @@ fn meet<O: Objects, L: Ledger>(
     steps: &mut Steps<L>,
 ) -> Result<Looked, GetFault>
     ensures told { ForSome (O.content objects.old) (λ m. IfOk result
-        (λ looked. IsMet m known.now pair facts.old facts.new looked steps.old steps.new)) }
+        (λ looked. IsTested m known.now pair facts.old facts.new looked steps.old steps.new)) }
     ensures kept { O.content objects.new ≡ O.content objects.old }
     ensures beside { O.beside objects.new ≡ O.beside objects.old }
     ensures looked { O.looks objects.new + steps.old ≤ O.looks objects.old + steps.new }
@@ -126,7 +127,7 @@ fn search<O: Objects, L: Ledger>(
     let mut i = 0;
     while i < queue.len() {
         let pair = pair_at(&queue, i);
-        match meet(alloc, objects, known, &mut facts, pair, steps)? {
+        match test_pair(alloc, objects, known, &mut facts, pair, steps)? {
             Looked::Missing => missing = Some(lesser(missing, pair.oid)),
             Looked::Unfit => unfit = Some(lesser(unfit, pair.oid)),
             Looked::Fit(links) => append(&mut queue, links.as_slice())?,
@@ -150,6 +151,8 @@ fn search<O: Objects, L: Ledger>(
 /// look at its object's kind. Where the objects are told there are at most as many as the names
 /// that are so reached and were not known, and the links of those of them whose objects are as
 /// expected and well formed, and twice the roots.
+///
+/// `Err` is the fault of a look-up, or `NoMemory`.
 pub fn closure_beyond<O: Objects, L: Ledger>(
     alloc: Global,
     objects: &mut O,

@@ -62,7 +62,7 @@ fn parents_among(alloc: Global, links: &[LinkTo]) -> Result<Vec<Oid>, AllocError
         .collect(alloc)
 }
 
-/// The parents of a commit, in order; none where it is no good commit.
+/// The parents of a commit, in order; none where the name has no well-formed commit.
 fn parents_at<O: Objects>(alloc: Global, objects: &mut O, oid: Oid) -> Result<Vec<Oid>, GetFault>
     ensures told { ForSome (O.content objects.old) (λ m. IfOk result (λ parents. (each : List Oid)
         → HasParents m oid each → each ≡ parents.items)) }
@@ -86,6 +86,9 @@ fn names_back(alloc: Global, pairs: &[Root]) -> Result<Vec<Oid>, AllocError>
 
 /// The commits from the root to the tip: the root has no parent, and each later one has the one
 /// before as its only parent. The tip is closed as a commit.
+///
+/// `TwoParents` and `NoRoot` as `ChainFault` says; `Get` is the fault of a look-up, or want of
+/// memory.
 pub fn chain<O: Objects>(alloc: Global, objects: &mut O, tip: &Oid) -> Result<Chain, ChainFault>
     requires { ForSome (O.content objects.old) (λ m. IsClosed m (as_commit tip.now ∷ [])) }
     ensures told { ForSome (O.content objects.old)

@@ -40,6 +40,7 @@ pub(crate) fn answer(missing: Option<Oid>, unfit: Option<Oid>) -> Closure
 }
 
 /// Whether all that the roots reach is there, of its expected kind and well formed.
+/// `Err` is the fault of a look-up, or `NoMemory`.
 pub fn closure<O: Objects>(
     alloc: Global,
     objects: &mut O,

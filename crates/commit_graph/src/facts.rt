@@ -77,7 +77,7 @@ impl Facts {
         Ok(fact)
     }
 
-    /// The links of a name, where they wait; the next time none do.
+    /// Takes the links of a name that wait; none where they were taken before.
     pub(crate) fn take_links(&mut self, alloc: Global, oid: Oid) -> Vec<LinkTo>
         ensures links { result.items ≡ items_of (waiting_in self.old oid) }
         ensures facts { (other : Oid) → fact_in self.new other ≡ fact_in self.old other }

@@ -6,7 +6,7 @@ use std::alloc::{AllocError, AllocFailed};
 /// The bytes read back at a place are not those of the name that they are held under.
 #[derive(Clone, Copy, Debug, PartialEq, Eq)]
 pub struct Changed {
-    /// Where the content begins, in bytes.
+    /// Where that content begins: bytes from the start of the disk, from 0.
     pub place: u64,
     /// The name that it is held under.
     pub name: Oid,

@@ -10,9 +10,10 @@ use crate::visited::Visited;
 use crate::{GetFault, Objects};
 use rad_base::Oid;
 use std::alloc::Global;
+use std::marker::Model;
 
 /// Whether the commit `old` lies in the history of the commit `new`: parent links alone lead from
-/// `new` to it. A commit lies in its own history.
+/// `new` to it. A commit lies in its own history. `Err` is the fault of a look-up, or `NoMemory`.
 pub fn in_history<O: Objects>(
     alloc: Global,
     objects: &mut O,
@@ -40,29 +41,39 @@ pub fn in_history<O: Objects>(
     Ok(false)
 }
 
-/// The commits of a history, as a set.
+/// The commits of a history, as a set. Contracts see it as the list of them, each as a commit.
 #[derive(Drop)]
 pub struct History {
     found: Visited,
 }
 
+impl Model for History {
+    ghost use Rattle.std.specs.Prelude.{List};
+    ghost use Rattle.commit_graph.specs.declared.root.Root.{Root};
+
+    ghost Value = { List Root };
+
+    ghost view = { λ history. history.found };
+}
+
 impl History {
     /// Whether the commit is one of them.
     pub fn contains(&self, oid: &Oid) -> bool
-        ensures { IsTrue result ↔ HasCommit self.now.found oid.now }
+        ensures { IsTrue result ↔ HasCommit self.now oid.now }
     {
         self.found.contains(commit(*oid))
     }
 }
 
 /// The history of a commit: the commits to which parent links alone lead from it, itself included.
+/// `Err` is the fault of a look-up, or `NoMemory`.
 pub fn history_of<O: Objects>(
     alloc: Global,
     objects: &mut O,
     new: &Oid,
 ) -> Result<History, GetFault>
     ensures told { ForSome (O.content objects.old) (λ m. IfOk result (λ history. (old : Oid)
-        → HasCommit history.found old ↔ InHistory m old new.now)) }
+        → HasCommit history old ↔ InHistory m old new.now)) }
     ensures kept { O.content objects.new ≡ O.content objects.old }
     ensures beside { O.beside objects.new ≡ O.beside objects.old }
     ensures cause { HasCause (O.content objects.old) (O.faults objects.old) (O.faults objects.new)

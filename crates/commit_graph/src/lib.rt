@@ -1,6 +1,8 @@
 // Closure and history over Git objects.
 #![tactic(auto)]
 
+// `Closure` and `Chain` are reached as `answer::Closure` and `answer::Chain`: an item and another
+// whose names differ only in case, as the functions here, may not stand in one module.
 pub mod answer;
 mod beyond;
 mod chains;

@@ -1,7 +1,7 @@
 // One look at a pair.
 ghost use Rattle.std.specs.Prelude.{◌≡◌, ◌≤◌, ◌+◌, IfOk, IfErr};
 ghost use Rattle.std.specs.Option.{ForSome};
-ghost use Rattle.commit_graph.specs.Faults.{HasCause};
+ghost use Rattle.commit_graph.specs.Faults.{HasCause, IsAskedFor};
 ghost use Rattle.commit_graph.specs.Looks.{Reads, Shows};
 
 use crate::root::is_expected;
@@ -39,6 +39,7 @@ pub(crate) fn look<O: Objects>(
     ensures kept { O.content objects.new ≡ O.content objects.old }
     ensures beside { O.beside objects.new ≡ O.beside objects.old }
     ensures looked { O.looks objects.new ≤ O.looks objects.old + 1 }
+    ensures asked { IfErr result (IsAskedFor pair.oid) }
     ensures cause { HasCause (O.content objects.old) (O.faults objects.old) (O.faults objects.new)
         result }
 {

@@ -4,9 +4,9 @@ ghost use Rattle.std.specs.Borrow.{sem};
 ghost use Rattle.std.specs.Io.BufRead.{Rests};
 ghost use Rattle.std.specs.Option.{ForSome};
 ghost use Rattle.commit_graph.specs.Objects.{ObjectMap, IsNamed, shown};
-ghost use Rattle.commit_graph.specs.Faults.{IsCause};
+ghost use Rattle.commit_graph.specs.Faults.{IsAskedFor, IsCause};
 
-use crate::{Changed, GetFault};
+use crate::GetFault;
 use git_object::Kind;
 use rad_base::Oid;
 
@@ -36,8 +36,7 @@ pub trait Objects {
     fn get(&mut self, oid: &Oid) -> Result<Option<(Kind, &[u8])>, GetFault>
         ensures found { ForSome (content self.old)
             (λ m. IfOk result (λ found. shown found ≡ m oid.now)) }
-        ensures asked { IfErr result (λ fault. (change : Changed) → fault ≡ GetFault.Changed change
-            → change.name ≡ oid.now) }
+        ensures asked { IfErr result (IsAskedFor oid.now) }
         ensures* kept { sem 𝓛 (Rests Self.row self.entry (λ new. (content new ≡ content self.old)
             × (beside new ≡ beside self.old)
             × (faults self.old ≤ faults new)

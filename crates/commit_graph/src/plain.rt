@@ -85,8 +85,9 @@ fn reached_pairs<O: Objects>(
     Ok(list)
 }
 
-/// What `closure` answers, by plain lists, in the square of the time: the pairs that are reached
-/// first, and then the least names among them.
+/// What `closure` answers, by plain lists, in time of the square of the number of pairs: the pairs
+/// that are reached first, and then the least names among them. `Err` is the fault of a look-up, or
+/// `NoMemory`.
 pub fn closure_by_lists<O: Objects>(
     alloc: Global,
     objects: &mut O,

@@ -70,6 +70,7 @@ fn names_of(alloc: Global, pairs: &[Root]) -> Result<Vec<Oid>, AllocError>
 }
 
 /// The names that are reached from the roots, rising, each once, also those without an object.
+/// `Err` is the fault of a look-up, or `NoMemory`.
 pub fn reached<O: Objects>(alloc: Global, objects: &mut O, roots: &[Root]) -> Result<Oids, GetFault>
     ensures rising { IfOk result (IsStrictlySortedBy oid_cmp) }
     ensures told { ForSome (O.content objects.old)

@@ -8,7 +8,9 @@ use rad_base::Oid;
 /// A name with the kind that its object is expected to have; none stands for any kind.
 #[derive(Clone, Copy, Debug, PartialEq, Eq, PartialOrd, Ord)]
 pub struct Root {
+    /// The name.
     pub oid: Oid,
+    /// The kind that its object is expected to have; none for any.
     pub kind: Option<Kind>,
 }
 

@@ -1,5 +1,8 @@
 // Tests against graphs that an independent program made, and that agree with Git; against the plain
-// closure; of a long chain; and beyond names that are known.
+// closure; of a long chain; of how many look-ups there are, and of one that fails; and beyond names
+// that are known.
+mod counted;
+mod failing;
 mod graphs;
 mod graphs_of_git;
 mod known;

@@ -1,4 +1,4 @@
-// The pairs that a walk has come to, each once, in the order of coming.
+// The list that a walk fills and follows.
 ghost use Rattle.std.specs.Prelude.{◌≡◌, ◌<◌, ◌^◌, [], length, slice_get, OnOk, OnErr, Some};
 ghost use Rattle.std.specs.Prelude.{IsTrue, ◌↔◌, Contains, map, filter};
 ghost use Rattle.commit_graph.specs.Lists.{Adds, Extends};
@@ -11,7 +11,8 @@ use std::alloc::{AllocError, Global};
 use std::collections::BTreeSet;
 use std::marker::Model;
 
-/// The pairs that a walk has come to, each once: those before a cursor are followed, the rest wait.
+/// The pairs that a walk has come to, each once, in the order of coming. Contracts see it as their
+/// list.
 #[derive(Drop)]
 pub(crate) struct Visited {
     marks: BTreeSet<Root>,

@@ -2,66 +2,20 @@
 // that grows.
 ghost use Rattle.std.specs.Prelude.{◌≡◌, ◌<◌};
 
+use super::counted::Counted;
 use super::graphs::GRAPHS;
 use super::graphs_of_git::{Graph, built, name};
 use super::long_chain::commit;
 use super::more_graphs::MORE_GRAPHS;
 use crate::answer::Closure;
-use crate::{GetFault, MemObjects, Objects, Root, closure, closure_beyond, reached};
-use git_object::{Kind, name_of};
-use rad_base::{NoMemory, Oid, Oids, Steps};
+use crate::{MemObjects, Objects, Root, closure, closure_beyond, reached};
+use git_object::Kind;
+use rad_base::{Oid, Oids, Steps};
 use std::alloc::Global;
-use std::collections::{BTreeMap, BTreeSet};
+use std::collections::BTreeSet;
 use std::marker::Brand;
 use std::sync::ledger::{Blank, Ledger};
 use std::test::Fail;
-
-/// Objects that count the look-ups. They are not told, so that any names may go as known.
-#[derive(Drop)]
-struct Counted {
-    objects: BTreeMap<Oid, (Kind, Vec<u8>)>,
-    looks: usize,
-}
-
-impl Objects for Counted {
-    ghost use Rattle.std.specs.Prelude.{None};
-    ghost use Rattle.std.proofs.Common.{rules};
-
-    ghost content = { λ _. None };
-
-    ghost faults = { λ _. 0 };
-
-    ghost looks = { λ counted. counted.looks };
-
-    ghost Beside = { Unit {0} };
-
-    ghost beside = { λ _. tt };
-
-    fn get(&mut self, oid: &Oid) -> Result<Option<(Kind, &[u8])>, GetFault> {
-        self.looks = self.looks.saturating_add(1);
-        match self.objects.get(oid) {
-            Some((kind, bytes)) => Ok(Some((*kind, bytes.as_slice()))),
-            None => Ok(None),
-        }
-    }
-
-    ghost named = { Prim.search rules };
-}
-
-impl Counted {
-    fn new(alloc: Global) -> Self {
-        Counted {
-            objects: BTreeMap::new(alloc),
-            looks: 0,
-        }
-    }
-
-    fn put(&mut self, alloc: Global, kind: Kind, bytes: &[u8]) -> Result<Oid, NoMemory> {
-        let oid = name_of(kind, bytes);
-        self.objects.insert(oid, (kind, bytes.to_vec(alloc)?))?;
-        Ok(oid)
-    }
-}
 
 fn copied(alloc: Global, store: &MemObjects, names: &[Oid]) -> Result<Counted, Fail> {
     let mut objects = store;

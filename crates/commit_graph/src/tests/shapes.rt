@@ -1,9 +1,15 @@
-// Every shape of three and of four objects, cycles among them. An object's hash can't be had ahead of
-// its content, so the objects here go by made names.
-use crate::{GetFault, Objects, Root, closure, closure_by_lists};
+// Trees, blobs, malformed trees and missing objects: three of them with each kind of entry, four with
+// directories alone. Cycles are among them: an object's hash can't be had ahead of its content, so
+// the objects here go by made names.
+ghost use Rattle.std.specs.Prelude.{◌≡◌, ◌<◌};
+
+use crate::{GetFault, Objects, Root, closure, closure_beyond, closure_by_lists};
 use git_object::Kind;
-use rad_base::Oid;
+use rad_base::{Oid, Steps};
 use std::alloc::{AllocError, Global};
+use std::collections::BTreeSet;
+use std::marker::Brand;
+use std::sync::ledger::{Blank, Ledger};
 use std::test::Fail;
 
 // What an object is, each of them by its number: one of these, or missing.
@@ -84,8 +90,18 @@ fn chosen(choices: usize, number: usize) -> [usize; 4] {
 }
 
 // On how many choices of shapes the closure of the first object as any kind and of the second as a
-// tree is another than by lists.
-fn disagreements(alloc: Global, objects: u8, ways: usize) -> Result<usize, Fail> {
+// tree, or that beyond no known name, is another than by lists.
+fn disagreements<L: Ledger>(
+    alloc: Global,
+    objects: u8,
+    ways: usize,
+    blank: Blank,
+) -> Result<usize, Fail>
+    requires name { blank.name ≡ L.name }
+    requires parts { blank.parts ≡ L.parts }
+    requires some { 0 < blank.parts }
+{
+    let mut steps = Steps::<L>::new(blank);
     let shapes = each_shape(alloc, objects, ways)?;
     let choices = shapes.len().saturating_add(1);
     let roots = [root(0, None), root(1, Some(Kind::Tree))];
@@ -97,7 +113,10 @@ fn disagreements(alloc: Global, objects: u8, ways: usize) -> Result<usize, Fail>
             numbers,
         };
         let plain = closure_by_lists(alloc, &mut store, &roots)?;
-        if closure(alloc, &mut store, &roots)? != plain {
+        let mut known = BTreeSet::new(alloc);
+        if closure(alloc, &mut store, &roots)? != plain
+            || closure_beyond(alloc, &mut store, &mut known, &roots, &mut steps)? != plain
+        {
             count = count.saturating_add(1);
         }
     }
@@ -111,12 +130,14 @@ fn root(object: u8, kind: Option<Kind>) -> Root {
 
 #[test]
 fn three_objects_in_every_shape(rt: HostRuntime) -> Result<(), Fail> {
-    assert_eq!(rt; disagreements(rt.alloc(), 3, 4)?, 0);
+    let count = disagreements::<Brand>(rt.alloc(), 3, 4, Blank::new(1))?;
+    assert_eq!(rt; count, 0);
     Ok(())
 }
 
 #[test]
 fn four_objects_in_every_shape(rt: HostRuntime) -> Result<(), Fail> {
-    assert_eq!(rt; disagreements(rt.alloc(), 4, 2)?, 0);
+    let count = disagreements::<Brand>(rt.alloc(), 4, 2, Blank::new(1))?;
+    assert_eq!(rt; count, 0);
     Ok(())
 }

@@ -7,8 +7,8 @@ use Rattle.canonical_head.specs.Tables.{candidates_in, is_top}
 use Rattle.canonical_head.proofs.Candidates.{head_at, head_diverges, if_ok}
 use Rattle.canonical_head.proofs.heads.head_by.Goals as goal
 
-pub returns-in-Some : goal.returns-in-Some
-returns-in-Some c = λ m told.
+pub returns-in-Some-clause-told : goal.returns-in-Some-clause-told
+returns-in-Some-clause-told c = λ m told.
     let table = c.args.table.now in
     let tips = c.args.tips.now in
     let found : c.deref.result.now ≡ candidates_in table tips c.args.threshold = c.deref.ensures.value ∙ c.in_ok-candidates.ensures in
@@ -17,8 +17,8 @@ returns-in-Some c = λ m told.
     head_at m tips c.args.threshold table told c.in-Some.oid
     (subst (λ (xs : List Oid). IsLeastIn xs (Some c.in-Some.oid)) tops c.in-Some.ensures)
 
-pub returns : goal.returns
-returns c =
+pub returns-clause-told : goal.returns-clause-told
+returns-clause-told c =
     let table = c.args.table.now in
     let tips = c.args.tips.now in
     let found : c.deref.result.now ≡ candidates_in table tips c.args.threshold = c.deref.ensures.value ∙ c.in_ok-candidates.ensures in

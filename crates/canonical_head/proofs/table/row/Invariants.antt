@@ -4,4 +4,4 @@ use Rattle.canonical_head.proofs.Rows.{IsKept}
 use Rattle.canonical_head.proofs.table.row.Given as goal
 
 abbrev pub invariant-loop-tip : goal.invariant-loop-tip
-invariant-loop-tip l = IsKept (HasCommit l.history.found) (take l.tip-index l.tips) l.row
+invariant-loop-tip l = IsKept (HasCommit l.history) (take l.tip-index l.tips) l.row

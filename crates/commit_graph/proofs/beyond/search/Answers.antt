@@ -22,30 +22,30 @@ loop-i-init g c = record {
   progress = λ m e. search_start m c.args.known.now c.args.roots.now c.in_ok-queue.queue.items c.new-facts.result c.args.steps.now c.in_ok-queue.ensures.items c.new-facts.ensures.facts c.new-facts.ensures.waiting;
 }
 
-pub returns-in_err-meet-clause-cost : goal.returns-in_err-meet-clause-cost
-returns-in_err-meet-clause-cost g c = λ m e names fit cover cover_fit.
+pub returns-in_err-test_pair-clause-cost : goal.returns-in_err-test_pair-clause-cost
+returns-in_err-test_pair-clause-cost g c = λ m e names fit cover cover_fit.
     let at : slice_get c.loop-i.queue.items c.loop-i.i ≡ Some c.pair_at-pair.result = subst (λ (xs : List Root). slice_get xs c.loop-i.i ≡ Some c.pair_at-pair.result) c.deref.ensures.value c.pair_at-pair.ensures in
     let h = c.loop-i.invariant.progress m e in
     let within = slice_get_within c.loop-i.queue.items c.loop-i.i c.pair_at-pair.result at in
-    omega (arith, within, cost_within m _ _ _ _ _ _ _ _ _ h names fit cover cover_fit, has_root m _ _ _ _ _ _ _ _ _ h c.pair_at-pair.result at, c.in_err-meet.ensures.cost)
+    omega (arith, within, cost_within m _ _ _ _ _ _ _ _ _ h names fit cover cover_fit, has_root m _ _ _ _ _ _ _ _ _ h c.pair_at-pair.result at, c.in_err-test_pair.ensures.cost)
 
 pub returns-in_err-append-in-Fit-clause-cost : goal.returns-in_err-append-in-Fit-clause-cost
 returns-in_err-append-in-Fit-clause-cost g c = λ m e names fit cover cover_fit.
     let at : slice_get c.loop-i.queue.items c.loop-i.i ≡ Some c.pair_at-pair.result = subst (λ (xs : List Root). slice_get xs c.loop-i.i ≡ Some c.pair_at-pair.result) c.deref.ensures.value c.pair_at-pair.ensures in
     let h = c.loop-i.invariant.progress m e in
     let within = slice_get_within c.loop-i.queue.items c.loop-i.i c.pair_at-pair.result at in
-    omega (arith, within, cost_within m _ _ _ _ _ _ _ _ _ h names fit cover cover_fit, has_root m _ _ _ _ _ _ _ _ _ h c.pair_at-pair.result at, c.in_ok-meet.ensures.cost)
+    omega (arith, within, cost_within m _ _ _ _ _ _ _ _ _ h names fit cover cover_fit, has_root m _ _ _ _ _ _ _ _ _ h c.pair_at-pair.result at, c.in_ok-test_pair.ensures.cost)
 
 pub loop-i-preserved : goal.loop-i-preserved
 loop-i-preserved g c = record {
-  kept = c.in_ok-meet.ensures.kept ∙ c.loop-i.invariant.kept;
-  beside = c.in_ok-meet.ensures.beside ∙ c.loop-i.invariant.beside;
-  rising = omega (arith, c.in_ok-meet.ensures.cause.later, c.loop-i.invariant.rising);
-  looked = omega (arith, c.in_ok-meet.ensures.looked, c.loop-i.invariant.looked);
+  kept = c.in_ok-test_pair.ensures.kept ∙ c.loop-i.invariant.kept;
+  beside = c.in_ok-test_pair.ensures.beside ∙ c.loop-i.invariant.beside;
+  rising = omega (arith, c.in_ok-test_pair.ensures.cause.later, c.loop-i.invariant.rising);
+  looked = omega (arith, c.in_ok-test_pair.ensures.looked, c.loop-i.invariant.looked);
   progress = λ m e.
       let at : slice_get c.loop-i.queue.items c.loop-i.i ≡ Some c.pair_at-pair.result = subst (λ (xs : List Root). slice_get xs c.loop-i.i ≡ Some c.pair_at-pair.result) c.deref.ensures.value c.pair_at-pair.ensures in
       search_turn c.pair_at-pair.result (c.requires m e) at (c.loop-i.invariant.progress m e)
-      (c.in_ok-meet.ensures.told m (c.loop-i.invariant.kept ∙ e))
+      (c.in_ok-test_pair.ensures.told m (c.loop-i.invariant.kept ∙ e))
       (elim c.match-branch-3.branch [
         | in-Missing w ↦ notes _ _ _ _ _ w.in-Missing.is ((_, w.missing-is, w.lesser.ensures), w.unfit-is)
         | in-Unfit w ↦ notes _ _ _ _ _ w.in-Unfit.is (w.missing-is, (_, w.unfit-is, w.lesser-in-Unfit.ensures))
