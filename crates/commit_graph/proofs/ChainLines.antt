@@ -1,14 +1,16 @@
 -- The line of commits from a tip, and the chain that it is from its end.
-use Rattle.std.proofs.Common.{◌≡◌, List, [], ◌∷◌, ◌++◌, ◌≤◌, ◌<◌, refl, sym, ap, subst, inl, inr, ◌∙◌, reverse, length, slice_index_or, arith}
+use Rattle.std.proofs.Common.{◌≡◌, Bool, true, false, ◌↔◌, List, [], ◌∷◌, ◌++◌, ◌≤◌, ◌<◌, refl, sym, ap, subst, inl, inr, ◌∙◌, reverse, length, slice_index_or, arith, ◌+◌, length-append, ⊎_elim}
 use Rattle.std.specs.Prelude.{Contains, map, filter, Some, None, ◌⊎◌}
-use Rattle.std.proofs.lemmas.List.{map-append, reverse-append}
+use Rattle.std.proofs.lemmas.Bool.{false≢true}
+use Rattle.std.proofs.lemmas.List.{map-append, reverse-append, length-map}
+use Rattle.std.proofs.lemmas.List.Elements.{Contains-push_cases}
 use Rattle.git_object.specs.declared.kind.Kind.{Kind}
 use Rattle.git_object.specs.declared.kind.Kind.TheVariants.{Commit}
 use Rattle.git_object.specs.declared.link.LinkTo.{LinkTo}
 use Rattle.git_object.specs.Links.{links, IsWellFormed}
 use Rattle.rad_base.specs.declared.names.Oid.{Oid}
 use Rattle.rad_base.proofs.EachItem.{differ_more}
-use Rattle.rad_base.proofs.Members.{contains_head, map_has, map_from, filter_from}
+use Rattle.rad_base.proofs.Members.{contains_nothing, contains_head, contains_cases, map_has, map_from, filter_from}
 use Rattle.commit_graph.specs.declared.root.Root.{Root}
 use Rattle.commit_graph.specs.declared.look.Looked.{Looked}
 use Rattle.commit_graph.specs.declared.look.Looked.TheVariants as looked
@@ -18,9 +20,12 @@ use Rattle.commit_graph.specs.Pairs.{IsLink, IsFit, as_commit, pair_of, oid_of, 
 use Rattle.commit_graph.specs.Lists.{Adds}
 use Rattle.commit_graph.specs.Walks.{Walk}
 use Rattle.commit_graph.specs.Closures.{IsClosed, IsReached}
+use Rattle.commit_graph.specs.Histories.{IsParent, InHistory, CoversHistory}
 use Rattle.rad_base.specs.Lists.{AllDiffer}
 use Rattle.commit_graph.specs.Chains.{HasParents, IsOnlyParent, IsChain, IsLine, IsReturn, parents_in}
 use Rattle.commit_graph.proofs.PairSteps.{commit_kind, one_object, unfit_apart}
+use Rattle.commit_graph.proofs.HistoryWalks.{history_itself}
+use Rattle.commit_graph.proofs.Repeats.{length_within}
 use Rattle.commit_graph.proofs.Walked.{walk_push, reached_root, reached_step}
 
 -- a line goes on by the only parent of its end
@@ -133,6 +138,53 @@ line_reached m roots from (c ∷ cs) end r l =
     line_reached m roots l.1.0 cs end
     (reached_step (as_commit c) (as_commit l.1.0) (subst (λ (x : Oid). IsReached m roots (as_commit x)) l.0 r) (only_link m c l.1.0 l.1.1))
     l.1.2
+
+-- what a test did not find is not there
+pub not_there : {X : Type 0} (xs : List X) {x y : X} {found : Bool} → found ≡ false
+    → (found ≡ true) ↔ Contains xs x → x ≡ y → Contains xs y → ⊥
+not_there xs e is same has = false≢true (sym e ∙ is.1 (subst (Contains xs) (sym same) has))
+
+-- a line's commits, and its end, lie in the history of its tip
+line_history : (m : ObjectMap) (tip from : Oid) (commits : List Oid) (end : Oid)
+    → InHistory m from tip → IsLine m from commits end → (oid : Oid) → Contains commits oid
+    → InHistory m oid tip
+line_history m tip from [] end r l oid c = absurd (contains_nothing oid c)
+line_history m tip from (x ∷ xs) end r l oid c =
+    let here : InHistory m x tip = subst (λ (y : Oid). InHistory m y tip) l.0 r in
+    let step : IsParent m (as_commit x) (as_commit l.1.0) = (only_link m x l.1.0 l.1.1, refl) in
+    ⊎_elim (λ a. subst (λ (y : Oid). InHistory m y tip) a here)
+    (λ a. line_history m tip l.1.0 xs end (reached_step (as_commit x) (as_commit l.1.0) here step) l.1.2 oid a) (contains_cases x xs oid c)
+
+line_end : (m : ObjectMap) (tip from : Oid) (commits : List Oid) (end : Oid) → InHistory m from tip
+    → IsLine m from commits end → InHistory m end tip
+line_end m tip from [] end r l = subst (λ (y : Oid). InHistory m y tip) l r
+line_end m tip from (x ∷ xs) end r l =
+    let here : InHistory m x tip = subst (λ (y : Oid). InHistory m y tip) l.0 r in
+    line_end m tip l.1.0 xs end (reached_step (as_commit x) (as_commit l.1.0) here (only_link m x l.1.0 l.1.1, refl)) l.1.2
+
+-- so a line is no longer than the history
+pub line_within : {m : ObjectMap} {tip oid : Oid} {pairs : List Root} (all : List Oid)
+    → Line m tip pairs oid → CoversHistory m tip all → length pairs ≤ length all
+line_within {m} {tip} {oid} all h cover =
+    omega (
+      arith,
+      ap length h.are,
+      length-map h.commits as_commit,
+      length_within h.commits all h.once (λ x c. cover x (line_history m tip tip h.commits oid (history_itself m tip) h.walked x c)),
+    )
+
+-- and with its end, where it lacks that
+pub line_within_more : {m : ObjectMap} {tip oid : Oid} {pairs : List Root} (all : List Oid)
+    → Line m tip pairs oid → (Contains pairs (as_commit oid) → ⊥) → CoversHistory m tip all
+    → length pairs + 1 ≤ length all
+line_within_more {m} {tip} {oid} {pairs} all h lacks cover =
+    let once : AllDiffer (h.commits ++ oid ∷ []) = differ_more h.commits oid h.once
+    (λ c. lacks (subst (λ (xs : List Root). Contains xs (as_commit oid)) (sym h.are) (map_has as_commit h.commits oid c))) in
+    let itself = history_itself m tip in
+    let each : (x : Oid) → Contains (h.commits ++ oid ∷ []) x → Contains all x = λ x c. cover x
+    (⊎_elim (λ a. line_history m tip tip h.commits oid itself h.walked x a)
+    (λ a. subst (λ (y : Oid). InHistory m y tip) a (line_end m tip tip h.commits oid itself h.walked)) (Contains-push_cases h.commits oid x c)) in
+    omega (arith, ap length h.are, length-map h.commits as_commit, length-append h.commits (oid ∷ []), length_within (h.commits ++ oid ∷ []) all once each)
 
 -- what was read are the parents of the line's end, where the tip is closed
 pub line_parents : {m : ObjectMap} {tip oid : Oid} {pairs : List Root} {items : List Oid}

@@ -13,11 +13,11 @@ use Rattle.commit_graph.specs.Histories.{IsParent, InHistory, HasCommit}
 use Rattle.commit_graph.proofs.Walked.{reached_root, reached_stays, walk_append}
 use Rattle.commit_graph.proofs.Spread.{Spread, spread_end}
 
-same_commit : (q : Root) (oid : Oid) → q.oid ≡ oid → q.kind ≡ Some Commit → q ≡ as_commit oid
+pub same_commit : (q : Root) (oid : Oid) → q.oid ≡ oid → q.kind ≡ Some Commit → q ≡ as_commit oid
 same_commit q oid e k = ap (λ (x : Oid). record { oid = x; kind = q.kind }) e ∙ ap (λ (x : Option Kind). record { oid = oid; kind = x }) k
 
 -- a history has commits alone
-all_commits : (m : ObjectMap) (new : Oid) (q : Root) → Reached (IsParent m) (as_commit new ∷ []) q
+pub all_commits : (m : ObjectMap) (new : Oid) (q : Root) → Reached (IsParent m) (as_commit new ∷ []) q
     → q.kind ≡ Some Commit
 all_commits m new = reached_stays (λ (q : Root). q.kind ≡ Some Commit)
     (λ q c. ap (λ (x : Root). x.kind) (sym (contains_one (as_commit new) q c)))

@@ -8,6 +8,7 @@ pub mod FactsHold
 pub mod HistoryWalks
 pub mod Learned
 pub mod LeastNames
+pub mod LookUps
 pub mod Marks
 pub mod NameSets
 pub mod Named

@@ -1,17 +1,18 @@
 -- Marks beside a list without repeats.
 use Rattle.std.proofs.Common.{◌≡◌, Bool, true, false, cond, ◌||◌, List, [], ◌∷◌, ◌++◌, refl, sym, ap, subst, inl, inr, ⊎_elim, ◌∙◌}
-use Rattle.std.specs.Prelude.{Contains, not, ◌↔◌}
+use Rattle.std.specs.Prelude.{Contains, not, ◌↔◌, ◌≢◌}
 use Rattle.std.specs.declared.cmp.Ordering.{Ordering}
 use Rattle.std.specs.Ordering.{eq_by_cmp}
 use Rattle.std.specs.Cmp.{IsTotalOrder}
 use Rattle.std.proofs.lemmas.Cmp.{eq_by_cmp_equiv}
-use Rattle.std.specs.List.{list_any, IsDistinct}
+use Rattle.std.specs.List.{list_any, IsDistinct, AllByRecursion}
 use Rattle.std.specs.BTreeSet.{BTreeSet, contains, Updates, IsEmpty}
 use Rattle.std.proofs.lemmas.Bool.{cases_Bool, false≢true}
 use Rattle.std.proofs.lemmas.List.Folds.{list_any-append}
 use Rattle.std.proofs.lemmas.Map.Keys.{IsDistinct-push}
 use Rattle.std.proofs.lemmas.Map.Lookups.{CmpEqualImpliesEq}
 use Rattle.std.proofs.lemmas.Map.Views.{Contains-from_any, list_any-from_Contains, tells_apart}
+use Rattle.rad_base.specs.Lists.{AllDiffer}
 use Rattle.commit_graph.specs.Lists.{IsMarked, Adds}
 
 pub marked_none : {X : Type 0} (cmp : X → X → Ordering) (marks : BTreeSet X) (items : List X)
@@ -38,6 +39,21 @@ marked_push {X} {cmp} o marks marks' items x u fresh h = record {
       ∙ sym (list_any-append (eq_by_cmp cmp q) items (x ∷ []));
   distinct = IsDistinct-push (eq_by_cmp_equiv o) items x h.distinct (sym (h.same x) ∙ fresh);
 }
+
+differ_each : {X : Type 0} (eq : X → X → Bool) → ((y : X) → eq y y ≡ true) → (x : X) (xs : List X)
+    → AllByRecursion (λ y. eq x y ≡ false) xs → AllByRecursion (λ y. x ≢ y) xs
+differ_each eq itself x [] h = tt
+differ_each {X} eq itself x (y ∷ ys) h = (
+  λ e. false≢true (sym h.0 ∙ subst (λ (z : X). eq x z ≡ true) e (itself x)),
+  differ_each eq itself x ys h.1,
+)
+
+-- items that are apart by their order differ
+pub marked_differ : {X : Type 0} {cmp : X → X → Ordering} → IsTotalOrder cmp → (items : List X)
+    → IsDistinct (eq_by_cmp cmp) items → AllDiffer items
+unfolding IsDistinct
+marked_differ o [] h = tt
+marked_differ {X} {cmp} o (x ∷ xs) h = (differ_each (eq_by_cmp cmp) (eq_by_cmp_equiv o).refl x xs h.0, marked_differ o xs h.1)
 
 -- a mark that was new and was taken back leaves the marks as they were
 pub marked_back : {X : Type 0} {cmp : X → X → Ordering} → CmpEqualImpliesEq cmp

@@ -50,3 +50,9 @@ sum_by-le {X} f (x ∷ xs) ys once has =
 pub sum_by-one : {X : Type 0} (xs : List X) → sum_by (λ (x : X). 1) xs ≡ length xs
 sum_by-one [] = refl
 sum_by-one {X} (x ∷ xs) = omega (arith, sum_by-cons (λ (y : X). 1) x xs, sum_by-one xs)
+
+-- a list without repeats is no longer than one with each of its items
+pub length_within : {X : Type 0} (xs ys : List X) → AllDiffer xs
+    → ((x : X) → Contains xs x → Contains ys x) → length xs ≤ length ys
+length_within {X} xs ys once has =
+    omega (arith, sum_by-le (λ (x : X). 1) xs ys once has, sum_by-one xs, sum_by-one ys)

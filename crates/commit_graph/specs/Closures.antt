@@ -15,6 +15,10 @@ use Rattle.commit_graph.specs.Walks.{Reached}
 abbrev pub IsReached : ObjectMap → List Root → Root → Type 0
 IsReached objects roots p = Reached (IsLink objects) roots p
 
+-- each pair that is reached is among these
+abbrev pub CoversReached : ObjectMap → List Root → List Root → Type 0
+CoversReached objects roots pairs = (p : Root) → IsReached objects roots p → Contains pairs p
+
 -- a pair of this name is reached
 pub record IsReachedName (objects : ObjectMap) (roots : List Root) (oid : Oid) : Type 0 where
   pub pair : Root

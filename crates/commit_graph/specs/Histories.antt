@@ -15,6 +15,10 @@ IsParent objects p q = IsLink objects p q × (q.kind ≡ Some Commit)
 abbrev pub InHistory : ObjectMap → Oid → Oid → Type 0
 InHistory objects old new = Reached (IsParent objects) (as_commit new ∷ []) (as_commit old)
 
+-- each commit of the history is among these
+abbrev pub CoversHistory : ObjectMap → Oid → List Oid → Type 0
+CoversHistory objects new commits = (old : Oid) → InHistory objects old new → Contains commits old
+
 -- the list of pairs has this commit
 abbrev pub HasCommit : List Root → Oid → Type 0
 HasCommit found oid = Contains found (as_commit oid)

@@ -1,9 +1,11 @@
 // The commits from a root to a tip.
-ghost use Rattle.std.specs.Prelude.{◌≡◌, ◌∷◌, [], List, IfOk, IfErr, map, reverse};
+ghost use Rattle.std.specs.Prelude.{◌≡◌, ◌≤◌, ◌+◌, ◌∷◌, [], List, length, IfOk, IfErr};
+ghost use Rattle.std.specs.Prelude.{map, reverse};
 ghost use Rattle.std.specs.Option.{ForSome};
 ghost use Rattle.commit_graph.specs.Faults.{HasCause};
 ghost use Rattle.commit_graph.specs.Pairs.{as_commit, oid_of};
 ghost use Rattle.commit_graph.specs.Closures.{IsClosed};
+ghost use Rattle.commit_graph.specs.Histories.{CoversHistory};
 ghost use Rattle.commit_graph.specs.Chains.{parents_in, HasParents, IsChain, IsChainFault};
 ghost use Rattle.commit_graph.specs.Chains.{HasGetCause};
 
@@ -68,6 +70,7 @@ fn parents_at<O: Objects>(alloc: Global, objects: &mut O, oid: Oid) -> Result<Ve
         → HasParents m oid each → each ≡ parents.items)) }
     ensures kept { O.content objects.new ≡ O.content objects.old }
     ensures beside { O.beside objects.new ≡ O.beside objects.old }
+    ensures looked { O.looks objects.new ≤ O.looks objects.old + 1 }
     ensures cause { HasCause (O.content objects.old) (O.faults objects.old) (O.faults objects.new)
         result }
 {
@@ -85,7 +88,7 @@ fn names_back(alloc: Global, pairs: &[Root]) -> Result<Vec<Oid>, AllocError>
 }
 
 /// The commits from the root to the tip: the root has no parent, and each later one has the one
-/// before as its only parent. The tip is closed as a commit.
+/// before as its only parent. The tip is closed as a commit. Each commit is looked up at most once.
 ///
 /// `TwoParents` and `NoRoot` as `ChainFault` says; `Get` is the fault of a look-up, or want of
 /// memory.
@@ -96,6 +99,9 @@ pub fn chain<O: Objects>(alloc: Global, objects: &mut O, tip: &Oid) -> Result<Ch
     ensures refused { ForSome (O.content objects.old) (λ m. IfErr result (IsChainFault m tip.now)) }
     ensures kept { O.content objects.new ≡ O.content objects.old }
     ensures beside { O.beside objects.new ≡ O.beside objects.old }
+    ensures looked { ForSome (O.content objects.old) (λ m. (commits : List Oid)
+        → CoversHistory m tip.now commits
+        → O.looks objects.new ≤ O.looks objects.old + length commits) }
     ensures cause { HasGetCause (O.content objects.old) (O.faults objects.old)
         (O.faults objects.new) result }
 {

@@ -1,8 +1,8 @@
 // Whether all that some roots reach is there and well formed.
-ghost use Rattle.std.specs.Prelude.{◌≡◌, ◌≤◌, IfOk};
+ghost use Rattle.std.specs.Prelude.{◌≡◌, ◌≤◌, ◌+◌, List, length, IfOk};
 ghost use Rattle.std.specs.Option.{ForSome};
 ghost use Rattle.commit_graph.specs.Faults.{HasCause};
-ghost use Rattle.commit_graph.specs.Closures.{IsClosure};
+ghost use Rattle.commit_graph.specs.Closures.{CoversReached, IsClosure};
 ghost use Rattle.commit_graph.specs.Looks.{IsLesser, answer_of};
 
 use crate::answer::Closure;
@@ -39,7 +39,8 @@ pub(crate) fn answer(missing: Option<Oid>, unfit: Option<Oid>) -> Closure
     }
 }
 
-/// Whether all that the roots reach is there, of its expected kind and well formed.
+/// Whether all that the roots reach is there, of its expected kind and well formed. Each pair that is
+/// reached is looked up once.
 /// `Err` is the fault of a look-up, or `NoMemory`.
 pub fn closure<O: Objects>(
     alloc: Global,
@@ -49,6 +50,9 @@ pub fn closure<O: Objects>(
     ensures told { ForSome (O.content objects.old) (λ m. IfOk result (IsClosure m roots.now)) }
     ensures kept { O.content objects.new ≡ O.content objects.old }
     ensures beside { O.beside objects.new ≡ O.beside objects.old }
+    ensures looked { ForSome (O.content objects.old) (λ m. (pairs : List Root)
+        → CoversReached m roots.now pairs
+        → O.looks objects.new ≤ O.looks objects.old + length pairs) }
     ensures cause { HasCause (O.content objects.old) (O.faults objects.old) (O.faults objects.new)
         result }
 {

@@ -1,5 +1,5 @@
 // One step of a walk.
-ghost use Rattle.std.specs.Prelude.{◌≡◌, ◌≤◌, OnOk};
+ghost use Rattle.std.specs.Prelude.{◌≡◌, ◌≤◌, ◌+◌, OnOk};
 ghost use Rattle.std.specs.Option.{ForSome};
 ghost use Rattle.commit_graph.specs.Faults.{HasCause};
 ghost use Rattle.commit_graph.specs.Lists.{Follows};
@@ -22,6 +22,7 @@ pub(crate) fn follow_links<O: Objects>(
         (λ m. OnOk result (Follows (IsLink m) pair found.old found.new)) }
     ensures kept { O.content objects.new ≡ O.content objects.old }
     ensures beside { O.beside objects.new ≡ O.beside objects.old }
+    ensures looked { O.looks objects.new ≤ O.looks objects.old + 1 }
     ensures cause { HasCause (O.content objects.old) (O.faults objects.old) (O.faults objects.new)
         result }
 {
@@ -42,6 +43,7 @@ pub(crate) fn follow_parents<O: Objects>(
         (λ m. OnOk result (Follows (IsParent m) pair found.old found.new)) }
     ensures kept { O.content objects.new ≡ O.content objects.old }
     ensures beside { O.beside objects.new ≡ O.beside objects.old }
+    ensures looked { O.looks objects.new ≤ O.looks objects.old + 1 }
     ensures cause { HasCause (O.content objects.old) (O.faults objects.old) (O.faults objects.new)
         result }
 {

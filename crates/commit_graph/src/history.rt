@@ -1,8 +1,8 @@
 // The history of a commit.
-ghost use Rattle.std.specs.Prelude.{◌≡◌, ◌≤◌, ◌↔◌, IsTrue, IfOk};
+ghost use Rattle.std.specs.Prelude.{◌≡◌, ◌≤◌, ◌+◌, ◌↔◌, List, length, IsTrue, IfOk};
 ghost use Rattle.std.specs.Option.{ForSome};
 ghost use Rattle.commit_graph.specs.Faults.{HasCause};
-ghost use Rattle.commit_graph.specs.Histories.{InHistory, HasCommit};
+ghost use Rattle.commit_graph.specs.Histories.{InHistory, CoversHistory, HasCommit};
 
 use crate::follow::follow_parents;
 use crate::root::{commit, is_named};
@@ -13,7 +13,8 @@ use std::alloc::Global;
 use std::marker::Model;
 
 /// Whether the commit `old` lies in the history of the commit `new`: parent links alone lead from
-/// `new` to it. A commit lies in its own history. `Err` is the fault of a look-up, or `NoMemory`.
+/// `new` to it. A commit lies in its own history. Each commit of the history is looked up at most
+/// once. `Err` is the fault of a look-up, or `NoMemory`.
 pub fn in_history<O: Objects>(
     alloc: Global,
     objects: &mut O,
@@ -24,6 +25,9 @@ pub fn in_history<O: Objects>(
         ↔ InHistory m old.now new.now)) }
     ensures kept { O.content objects.new ≡ O.content objects.old }
     ensures beside { O.beside objects.new ≡ O.beside objects.old }
+    ensures looked { ForSome (O.content objects.old) (λ m. (commits : List Oid)
+        → CoversHistory m new.now commits
+        → O.looks objects.new ≤ O.looks objects.old + length commits) }
     ensures cause { HasCause (O.content objects.old) (O.faults objects.old) (O.faults objects.new)
         result }
 {
@@ -66,6 +70,7 @@ impl History {
 }
 
 /// The history of a commit: the commits to which parent links alone lead from it, itself included.
+/// Each is looked up once.
 /// `Err` is the fault of a look-up, or `NoMemory`.
 pub fn history_of<O: Objects>(
     alloc: Global,
@@ -76,6 +81,9 @@ pub fn history_of<O: Objects>(
         → HasCommit history old ↔ InHistory m old new.now)) }
     ensures kept { O.content objects.new ≡ O.content objects.old }
     ensures beside { O.beside objects.new ≡ O.beside objects.old }
+    ensures looked { ForSome (O.content objects.old) (λ m. (commits : List Oid)
+        → CoversHistory m new.now commits
+        → O.looks objects.new ≤ O.looks objects.old + length commits) }
     ensures cause { HasCause (O.content objects.old) (O.faults objects.old) (O.faults objects.new)
         result }
 {

@@ -1,11 +1,12 @@
 // The names that are reached from some roots.
-ghost use Rattle.std.specs.Prelude.{◌≡◌, ◌≤◌, ◌↔◌, IsTrue, IfOk, OnOk, Contains, ◌⊎◌};
+ghost use Rattle.std.specs.Prelude.{◌≡◌, ◌≤◌, ◌+◌, ◌↔◌, ◌⊎◌, IsTrue, IfOk, OnOk};
+ghost use Rattle.std.specs.Prelude.{List, Contains, length};
 ghost use Rattle.std.specs.Option.{ForSome};
 ghost use Rattle.std.specs.List.Sorted.{IsStrictlySortedBy};
 ghost use Rattle.std.specs.BTreeSet.{contains, IsOrdered};
 ghost use Rattle.rad_base.specs.Order.{oid_cmp};
 ghost use Rattle.commit_graph.specs.Faults.{HasCause};
-ghost use Rattle.commit_graph.specs.Closures.{IsReached, IsReachedName, HasName};
+ghost use Rattle.commit_graph.specs.Closures.{IsReached, IsReachedName, HasName, CoversReached};
 
 use crate::follow::follow_links;
 use crate::visited::Visited;
@@ -20,6 +21,9 @@ fn walk<O: Objects>(alloc: Global, objects: &mut O, roots: &[Root]) -> Result<Vi
         → Contains found pair ↔ IsReached m roots.now pair)) }
     ensures kept { O.content objects.new ≡ O.content objects.old }
     ensures beside { O.beside objects.new ≡ O.beside objects.old }
+    ensures looked { ForSome (O.content objects.old) (λ m. (pairs : List Root)
+        → CoversReached m roots.now pairs
+        → O.looks objects.new ≤ O.looks objects.old + length pairs) }
     ensures cause { HasCause (O.content objects.old) (O.faults objects.old) (O.faults objects.new)
         result }
 {
@@ -69,7 +73,8 @@ fn names_of(alloc: Global, pairs: &[Root]) -> Result<Vec<Oid>, AllocError>
     Ok(list)
 }
 
-/// The names that are reached from the roots, rising, each once, also those without an object.
+/// The names that are reached from the roots, rising, each once, also those without an object. Each
+/// pair that is reached is looked up once.
 /// `Err` is the fault of a look-up, or `NoMemory`.
 pub fn reached<O: Objects>(alloc: Global, objects: &mut O, roots: &[Root]) -> Result<Oids, GetFault>
     ensures rising { IfOk result (IsStrictlySortedBy oid_cmp) }
@@ -78,6 +83,9 @@ pub fn reached<O: Objects>(alloc: Global, objects: &mut O, roots: &[Root]) -> Re
         ↔ IsReachedName m roots.now oid)) }
     ensures kept { O.content objects.new ≡ O.content objects.old }
     ensures beside { O.beside objects.new ≡ O.beside objects.old }
+    ensures looked { ForSome (O.content objects.old) (λ m. (pairs : List Root)
+        → CoversReached m roots.now pairs
+        → O.looks objects.new ≤ O.looks objects.old + length pairs) }
     ensures cause { HasCause (O.content objects.old) (O.faults objects.old) (O.faults objects.new)
         result }
 {

@@ -1,6 +1,7 @@
 // The list that a walk fills and follows.
 ghost use Rattle.std.specs.Prelude.{◌≡◌, ◌<◌, ◌^◌, [], length, slice_get, OnOk, OnErr, Some};
 ghost use Rattle.std.specs.Prelude.{IsTrue, ◌↔◌, Contains, map, filter};
+ghost use Rattle.rad_base.specs.Lists.{AllDiffer};
 ghost use Rattle.commit_graph.specs.Lists.{Adds, Extends};
 ghost use Rattle.commit_graph.specs.Pairs.{pair_of, is_commit_link};
 
@@ -42,7 +43,8 @@ impl Visited {
     }
 
     pub(crate) fn len(&self) -> usize
-        ensures { result ≡ length self.now }
+        ensures counted { result ≡ length self.now }
+        ensures differ { AllDiffer self.now }
     {
         self.queue.len()
     }

@@ -1,10 +1,9 @@
-use Rattle.std.proofs.Common.{◌≡◌, ◌++◌, [], ◌∷◌, List, sym, ap, subst, ◌∙◌, reverse, arith}
+use Rattle.std.proofs.Common.{◌≡◌, ◌++◌, [], ◌∷◌, List, sym, ap, subst, ◌∙◌, reverse, arith, length, length-append}
 use Rattle.std.specs.Prelude.{Contains, map}
-use Rattle.std.proofs.lemmas.Bool.{false≢true}
 use Rattle.commit_graph.specs.declared.root.Root.{Root}
 use Rattle.commit_graph.specs.Pairs.{as_commit, oid_of}
 use Rattle.commit_graph.specs.Chains.{HasParents}
-use Rattle.commit_graph.proofs.ChainLines.{line_turn, line_returns, line_chain, line_parents, one_item, no_item, added_new}
+use Rattle.commit_graph.proofs.ChainLines.{line_turn, line_returns, line_chain, line_parents, line_within, line_within_more, one_item, no_item, not_there, added_new}
 use Rattle.commit_graph.proofs.chains.chain.Goals as goal
 
 pub returns-then-contains-clause-refused : goal.returns-then-contains-clause-refused
@@ -15,8 +14,7 @@ returns-then-contains-clause-refused g c = λ m e.
 pub returns-in-empty-clause-told : goal.returns-in-empty-clause-told
 returns-in-empty-clause-told g c = λ m e.
     let h = c.walking.invariant.line m e in
-    let lacks : Contains c.walking.line (as_commit c.walking.oid) → ⊥ = λ has.
-    false≢true (sym c.if-contains.false ∙ c.contains.ensures.1 (subst (λ (pair : Root). Contains c.walking.line pair) (sym c.commit.ensures) has)) in
+    let lacks : Contains c.walking.line (as_commit c.walking.oid) → ⊥ = not_there c.walking.line c.if-contains.false c.contains.ensures c.commit.ensures in
     let pushed : c.add.new.self ≡ c.walking.line ++ as_commit c.walking.oid ∷ [] = added_new c.in_ok-add.ensures.ok c.commit-in-walking.ensures lacks in
     let parents : HasParents m c.walking.oid c.in_ok-parents.parents.items = line_parents (c.requires m e) h (c.in_ok-parents.ensures.told m (c.walking.invariant.kept ∙ e)) in
     let none : c.in_ok-parents.parents.items ≡ [] = sym c.as_slice.ensures.value ∙ no_item c.as_slice.result.now c.in-empty.len_below in
@@ -41,12 +39,43 @@ walking-preserved g c = record {
   kept = c.in_ok-parents.ensures.kept ∙ c.walking.invariant.kept;
   beside = c.in_ok-parents.ensures.beside ∙ c.walking.invariant.beside;
   rising = omega (arith, c.in_ok-parents.ensures.cause.later, c.walking.invariant.rising);
+  looked = λ m e.
+      let lacks : Contains c.walking.line (as_commit c.walking.oid) → ⊥ = not_there c.walking.line c.if-contains.false c.contains.ensures c.commit.ensures in
+      let pushed : c.add.new.self ≡ c.walking.line ++ as_commit c.walking.oid ∷ [] = added_new c.in_ok-add.ensures.ok c.commit-in-walking.ensures lacks in
+      omega (arith, c.walking.invariant.looked m e, c.in_ok-parents.ensures.looked, ap length pushed, length-append c.walking.line (as_commit c.walking.oid ∷ []));
   line = λ m e.
       let h = c.walking.invariant.line m e in
-      let lacks : Contains c.walking.line (as_commit c.walking.oid) → ⊥ = λ has.
-      false≢true (sym c.if-contains.false ∙ c.contains.ensures.1 (subst (λ (pair : Root). Contains c.walking.line pair) (sym c.commit.ensures) has)) in
+      let lacks : Contains c.walking.line (as_commit c.walking.oid) → ⊥ = not_there c.walking.line c.if-contains.false c.contains.ensures c.commit.ensures in
       let pushed : c.add.new.self ≡ c.walking.line ++ as_commit c.walking.oid ∷ [] = added_new c.in_ok-add.ensures.ok c.commit-in-walking.ensures lacks in
       let parents : HasParents m c.walking.oid c.in_ok-parents.parents.items = line_parents (c.requires m e) h (c.in_ok-parents.ensures.told m (c.walking.invariant.kept ∙ e)) in
       let one = one_item c.as_slice.result.now (record { 0 = [] }) c.in-len1.len_at_least c.in-len1.len_below in
       line_turn h lacks pushed (subst (HasParents m c.walking.oid) (sym c.as_slice.ensures.value ∙ one) parents);
 }
+
+pub returns-then-contains-clause-looked : goal.returns-then-contains-clause-looked
+returns-then-contains-clause-looked g c = λ m e commits cover.
+    omega (arith, c.walking.invariant.looked m e, line_within commits (c.walking.invariant.line m e) cover)
+
+pub returns-in_err-add-clause-looked : goal.returns-in_err-add-clause-looked
+returns-in_err-add-clause-looked g c = λ m e commits cover.
+    omega (arith, c.walking.invariant.looked m e, line_within commits (c.walking.invariant.line m e) cover)
+
+pub returns-in_err-parents-clause-looked : goal.returns-in_err-parents-clause-looked
+returns-in_err-parents-clause-looked g c = λ m e commits cover.
+    let lacks : Contains c.walking.line (as_commit c.walking.oid) → ⊥ = not_there c.walking.line c.if-contains.false c.contains.ensures c.commit.ensures in
+    omega (arith, c.walking.invariant.looked m e, c.in_err-parents.ensures.looked, line_within_more commits (c.walking.invariant.line m e) lacks cover)
+
+pub returns-in-empty-clause-looked : goal.returns-in-empty-clause-looked
+returns-in-empty-clause-looked g c = λ m e commits cover.
+    let lacks : Contains c.walking.line (as_commit c.walking.oid) → ⊥ = not_there c.walking.line c.if-contains.false c.contains.ensures c.commit.ensures in
+    omega (arith, c.walking.invariant.looked m e, c.in_ok-parents.ensures.looked, line_within_more commits (c.walking.invariant.line m e) lacks cover)
+
+pub returns-in_err-names_back-in-empty-clause-looked : goal.returns-in_err-names_back-in-empty-clause-looked
+returns-in_err-names_back-in-empty-clause-looked g c = λ m e commits cover.
+    let lacks : Contains c.walking.line (as_commit c.walking.oid) → ⊥ = not_there c.walking.line c.if-contains.false c.contains.ensures c.commit.ensures in
+    omega (arith, c.walking.invariant.looked m e, c.in_ok-parents.ensures.looked, line_within_more commits (c.walking.invariant.line m e) lacks cover)
+
+pub returns-in_default-clause-looked : goal.returns-in_default-clause-looked
+returns-in_default-clause-looked g c = λ m e commits cover.
+    let lacks : Contains c.walking.line (as_commit c.walking.oid) → ⊥ = not_there c.walking.line c.if-contains.false c.contains.ensures c.commit.ensures in
+    omega (arith, c.walking.invariant.looked m e, c.in_ok-parents.ensures.looked, line_within_more commits (c.walking.invariant.line m e) lacks cover)

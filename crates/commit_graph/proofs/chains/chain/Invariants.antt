@@ -1,4 +1,4 @@
-use Rattle.std.proofs.Common.{◌≡◌, ◌≤◌, ◌-◌, ◌^◌, length}
+use Rattle.std.proofs.Common.{◌≡◌, ◌≤◌, ◌+◌, ◌-◌, ◌^◌, length}
 use Rattle.std.specs.Option.{ForSome}
 use Rattle.commit_graph.proofs.ChainLines.{Line}
 use Rattle.commit_graph.proofs.chains.chain.Given as goal
@@ -8,10 +8,12 @@ invariant-walking g l =
     let content = g.O.Objects.content in
     let beside = g.O.Objects.beside in
     let faults = g.O.Objects.faults in
+    let looks = g.O.Objects.looks in
     record {
       kept : content l.objects ≡ content l.fn.objects;
       beside : beside l.objects ≡ beside l.fn.objects;
       rising : faults l.fn.objects ≤ faults l.objects;
+      looked : ForSome (content l.fn.objects) (λ _. looks l.objects ≤ looks l.fn.objects + length l.line);
       line : ForSome (content l.fn.objects) (λ m. Line m l.tip l.line l.oid);
     }
 

@@ -1,4 +1,4 @@
-use Rattle.std.proofs.Common.{◌≡◌, ◌≤◌, ◌-◌, ◌^◌}
+use Rattle.std.proofs.Common.{◌≡◌, ◌≤◌, ◌-◌, ◌^◌, ◌+◌, length, take}
 use Rattle.std.specs.Option.{ForSome}
 use Rattle.commit_graph.proofs.ClosureTurns.{Progress}
 use Rattle.commit_graph.proofs.closing.closure.Given as goal
@@ -8,10 +8,12 @@ invariant-loop-i g l =
     let content = g.O.Objects.content in
     let beside = g.O.Objects.beside in
     let faults = g.O.Objects.faults in
+    let looks = g.O.Objects.looks in
     record {
       kept : content l.objects ≡ content l.fn.objects;
       beside : beside l.objects ≡ beside l.fn.objects;
       rising : faults l.fn.objects ≤ faults l.objects;
+      looked : ForSome (content l.fn.objects) (λ _. looks l.objects ≤ looks l.fn.objects + length (take l.i l.found));
       progress : ForSome (content l.fn.objects) (λ m. Progress m l.roots l.i l.found l.missing l.unfit);
     }
 

@@ -1,5 +1,8 @@
 use Rattle.std.proofs.Common.{◌≡◌, take, ◌∙◌, arith}
 use Rattle.std.proofs.lemmas.List.{take_all}
+use Rattle.commit_graph.specs.Pairs.{as_commit}
+use Rattle.std.specs.Prelude.{map}
+use Rattle.commit_graph.proofs.LookUps.{looks_turn, looks_all, looks_more, history_cover, commits_many}
 use Rattle.commit_graph.proofs.HistoryWalks.{history_all}
 use Rattle.commit_graph.proofs.Spread.{spread_follows}
 use Rattle.commit_graph.proofs.history.history_of.Goals as goal
@@ -9,6 +12,9 @@ loop-i-preserved g c = record {
   kept = c.in_ok-follow_parents.ensures.kept ∙ c.loop-i.invariant.kept;
   beside = c.in_ok-follow_parents.ensures.beside ∙ c.loop-i.invariant.beside;
   rising = omega (arith, c.in_ok-follow_parents.ensures.cause.later, c.loop-i.invariant.rising);
+  looked = λ m e.
+      looks_turn _ _ _ c.loop-i.i c.at-pair.result c.at-pair.ensures (c.in_ok-follow_parents.ensures.told m (c.loop-i.invariant.kept ∙ e)).grown
+      c.in_ok-follow_parents.ensures.looked (c.loop-i.invariant.looked m e);
   spread = λ m e.
       spread_follows c.loop-i.i c.at-pair.result c.at-pair.ensures (c.loop-i.invariant.spread m e)
       (c.in_ok-follow_parents.ensures.told m (c.loop-i.invariant.kept ∙ e));
@@ -18,3 +24,21 @@ pub returns-clause-told : goal.returns-clause-told
 returns-clause-told g c = λ m e.
     let all : take c.loop-i.i c.loop-i.found ≡ c.loop-i.found = take_all c.loop-i.i c.loop-i.found (omega arith) in
     history_all m c.args.new.now (c.loop-i.invariant.spread m e) all
+
+pub returns-in_err-follow_parents-clause-looked : goal.returns-in_err-follow_parents-clause-looked
+returns-in_err-follow_parents-clause-looked g c = λ m e commits cover.
+    omega (
+      arith,
+      commits_many commits,
+      looks_more _ _ _ c.loop-i.i c.at-pair.result (map as_commit commits) c.at-pair.ensures c.in_err-follow_parents.ensures.looked
+          (c.loop-i.invariant.looked m e) (c.loop-i.invariant.spread m e) c.len.ensures.differ (history_cover commits cover),
+    )
+
+pub returns-clause-looked : goal.returns-clause-looked
+returns-clause-looked g c = λ m e commits cover.
+    omega (
+      arith,
+      commits_many commits,
+      looks_all _ _ c.loop-i.i (map as_commit commits) (c.loop-i.invariant.looked m e)
+          (c.loop-i.invariant.spread m e) c.len.ensures.differ (history_cover commits cover),
+    )

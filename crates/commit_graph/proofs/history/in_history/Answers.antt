@@ -3,6 +3,9 @@ use Rattle.std.proofs.lemmas.List.{take_all}
 use Rattle.std.proofs.lemmas.Bool.{false≢true}
 use Rattle.rad_base.proofs.Members.{contains_at}
 use Rattle.commit_graph.specs.declared.root.Root.{Root}
+use Rattle.commit_graph.specs.Pairs.{as_commit}
+use Rattle.std.specs.Prelude.{map}
+use Rattle.commit_graph.proofs.LookUps.{looks_turn, looks_all, looks_more, history_cover, commits_many}
 use Rattle.commit_graph.proofs.Adding.{take_grown}
 use Rattle.commit_graph.proofs.HistoryWalks.{history_found, history_none}
 use Rattle.commit_graph.proofs.Spread.{spread_follows, done_turn}
@@ -20,6 +23,9 @@ loop-i-preserved g c = record {
   kept = c.in_ok-follow_parents.ensures.kept ∙ c.loop-i.invariant.kept;
   beside = c.in_ok-follow_parents.ensures.beside ∙ c.loop-i.invariant.beside;
   rising = omega (arith, c.in_ok-follow_parents.ensures.cause.later, c.loop-i.invariant.rising);
+  looked = λ m e.
+      looks_turn _ _ _ c.loop-i.i c.at-pair.result c.at-pair.ensures (c.in_ok-follow_parents.ensures.told m (c.loop-i.invariant.kept ∙ e)).grown
+      c.in_ok-follow_parents.ensures.looked (c.loop-i.invariant.looked m e);
   spread = λ m e.
       spread_follows c.loop-i.i c.at-pair.result c.at-pair.ensures (c.loop-i.invariant.spread m e)
       (c.in_ok-follow_parents.ensures.told m (c.loop-i.invariant.kept ∙ e));
@@ -35,4 +41,31 @@ returns-clause-told g c = λ m e.
     let all : take c.loop-i.i c.loop-i.found ≡ c.loop-i.found = take_all c.loop-i.i c.loop-i.found (omega arith) in (
       λ h. absurd (false≢true h),
       λ r. absurd (history_none m c.args.old.now c.args.new.now (c.loop-i.invariant.spread m e) all (c.loop-i.invariant.other m e) r),
+    )
+
+pub returns-in_err-follow_parents-clause-looked : goal.returns-in_err-follow_parents-clause-looked
+returns-in_err-follow_parents-clause-looked g c = λ m e commits cover.
+    omega (
+      arith,
+      commits_many commits,
+      looks_more _ _ _ c.loop-i.i c.at-pair.result (map as_commit commits) c.at-pair.ensures c.in_err-follow_parents.ensures.looked
+          (c.loop-i.invariant.looked m e) (c.loop-i.invariant.spread m e) c.len.ensures.differ (history_cover commits cover),
+    )
+
+pub returns-clause-looked : goal.returns-clause-looked
+returns-clause-looked g c = λ m e commits cover.
+    omega (
+      arith,
+      commits_many commits,
+      looks_all _ _ c.loop-i.i (map as_commit commits) (c.loop-i.invariant.looked m e)
+          (c.loop-i.invariant.spread m e) c.len.ensures.differ (history_cover commits cover),
+    )
+
+pub returns-then-is_named-clause-looked : goal.returns-then-is_named-clause-looked
+returns-then-is_named-clause-looked g c = λ m e commits cover.
+    omega (
+      arith,
+      commits_many commits,
+      looks_all _ _ c.loop-i.i (map as_commit commits) (c.loop-i.invariant.looked m e)
+          (c.loop-i.invariant.spread m e) c.len.ensures.differ (history_cover commits cover),
     )
