@@ -2,7 +2,7 @@
 use Rattle.std.proofs.Common.{◌≡◌, ℕ, Bool, true, false, not, ◌&&◌, List, [], ◌∷◌, ◌↔◌, Some, None, Result, Ok, Err, refl, sym, subst, inl, inr, ◌⊎◌, ⊎_elim, nat_le, arith}
 use Rattle.std.specs.Prelude.{Contains, filter, IfOk}
 use Rattle.std.specs.List.{list_any, list_all}
-use Rattle.std.proofs.lemmas.Bool.{false≢true, and_parts, leb-true, le-leb, or_cases, or_left, or_right}
+use Rattle.std.proofs.lemmas.Bool.{false≢true, and_parts, and_from, leb-true, le-leb, or_cases, or_left, or_right}
 use Rattle.rad_base.specs.declared.names.Oid.{Oid}
 use Rattle.rad_base.proofs.Members.{contains_nothing, contains_head, contains_tail, contains_cases, filter_has, filter_from}
 use Rattle.commit_graph.specs.Objects.{ObjectMap}
@@ -13,7 +13,7 @@ use Rattle.canonical_head.specs.declared.answer.Head.{Head}
 use Rattle.canonical_head.specs.declared.answer.Head.TheVariants.{At, NoQuorum, Diverging, NoBranch}
 use Rattle.canonical_head.specs.declared.table.Table.{Table}
 use Rattle.canonical_head.specs.Heads.{HasVotes, IsCandidate, IsTop, IsBeside, IsRival, HasRival, IsHead}
-use Rattle.canonical_head.specs.Least.{IsLeastIn, IsLeastOf}
+use Rattle.canonical_head.specs.Least.{IsLeastIn}
 use Rattle.canonical_head.specs.Tables.{IsTable, tells, votes_in, candidates_in, is_top, is_beside, has_rival}
 use Rattle.canonical_head.specs.Divergence.{IsDivergence}
 use Rattle.canonical_head.proofs.Comparing.{above_or_beside}
@@ -25,14 +25,9 @@ all_pass {X} p (y ∷ ys) h x c =
     let parts = and_parts (p y) (list_all p ys) h in
     ⊎_elim (λ e. subst (λ (z : X). p z ≡ true) e parts.0) (λ d. all_pass p ys parts.1 x d) (contains_cases y ys x c)
 
-both_true : (a b : Bool) → a ≡ true → b ≡ true → (a && b) ≡ true
-both_true true true e f = refl
-both_true true false e f = cc f
-both_true false b e f = cc e
-
 pass_all : {X : Type 0} (p : X → Bool) (xs : List X) → ((x : X) → Contains xs x → p x ≡ true) → list_all p xs ≡ true
 pass_all p [] h = refl
-pass_all p (y ∷ ys) h = both_true (p y) (list_all p ys) (h y (contains_head y ys)) (pass_all p ys (λ x c. h x (contains_tail y ys x c)))
+pass_all p (y ∷ ys) h = and_from (p y) (list_all p ys) (h y (contains_head y ys)) (pass_all p ys (λ x c. h x (contains_tail y ys x c)))
 
 any_passes : {X : Type 0} (p : X → Bool) (xs : List X) → list_any p xs ≡ true → (x : X) × Contains xs x × (p x ≡ true)
 any_passes p [] h = cc h
@@ -67,9 +62,9 @@ least_none : (names : List Oid) (oid : Oid) → names ≡ [] → Contains names 
 least_none names oid e c = contains_nothing oid (subst (λ (xs : List Oid). Contains xs oid) e c)
 
 -- the least of a list is the least of which P holds, where the list has just these
-least_holds : (P : Oid → Type 0) (names : List Oid) (oid : Oid) → ((other : Oid) → Contains names other ↔ P other) → IsLeastOf names oid → IsLeast P oid
+least_holds : (P : Oid → Type 0) (names : List Oid) (oid : Oid) → ((other : Oid) → Contains names other ↔ P other) → IsLeast (Contains names) oid → IsLeast P oid
 least_holds P names oid all h = record {
-  holds = (all oid).0 h.here;
+  holds = (all oid).0 h.holds;
   least = λ other p below. h.least other ((all other).1 p) below;
 }
 
@@ -111,7 +106,7 @@ module _ (m : ObjectMap) (tips : List Oid) (threshold : ℕ) (table : Table) (to
       λ r. not_not (tells table a b) parts.0 ((told a b c d).1 r),
       λ r. not_not (tells table b a) parts.1 ((told b a d c).1 r),
     ),
-    λ h. both_true (not (tells table a b)) (not (tells table b a))
+    λ h. and_from (not (tells table a b)) (not (tells table b a))
         (not_yes (tells table a b) (λ t. h.0 ((told a b c d).0 t)))
         (not_yes (tells table b a) (λ t. h.1 ((told b a d c).0 t))),
   )

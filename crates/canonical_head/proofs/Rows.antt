@@ -6,14 +6,13 @@ use Rattle.std.specs.BTreeMap.{BTreeMap, get, is_at}
 use Rattle.std.specs.BTreeSet.{BTreeSet, contains}
 use Rattle.std.specs.List.{list_any}
 use Rattle.std.specs.Map.{lookup}
-use Rattle.std.proofs.lemmas.Cmp.{eq_by_cmp_equiv}
 use Rattle.std.proofs.lemmas.Bool.{cases_Bool}
 use Rattle.std.proofs.lemmas.List.{take_more}
 use Rattle.std.proofs.lemmas.List.Elements.{Contains-push_cases}
 use Rattle.std.proofs.lemmas.Map.Views.{tells_apart}
 use Rattle.rad_base.specs.declared.names.Oid.{Oid}
 use Rattle.rad_base.specs.Order.{oid_cmp}
-use Rattle.rad_base.proofs.NameOrder.{oid_total, oid_exact}
+use Rattle.rad_base.proofs.NameOrder.{oid_exact, equals_itself}
 use Rattle.rad_base.proofs.Members.{contains_nothing}
 use Rattle.commit_graph.specs.Objects.{ObjectMap}
 use Rattle.commit_graph.specs.Histories.{InHistory}
@@ -46,7 +45,7 @@ kept_push P names x set set' (inl (p, u)) h = record {
       (λ b. u oid ∙ ap (λ (t : Bool). cond t true (contains oid_cmp set oid)) b)
       (λ b. ⊎_elim
       (λ d. u oid ∙ ap (λ (t : Bool). cond t true (contains oid_cmp set oid)) b ∙ h.all oid d q)
-      (λ d. let same : is_at (oid_cmp x) oid ≡ true = subst (λ (z : Oid). is_at (oid_cmp x) z ≡ true) d ((eq_by_cmp_equiv oid_total).refl x) in absurd (cc (same, b)))
+      (λ d. let same : is_at (oid_cmp x) oid ≡ true = subst (λ (z : Oid). is_at (oid_cmp x) z ≡ true) d (equals_itself x.0) in absurd (cc (same, b)))
       (Contains-push_cases names x oid c))
       (cases_Bool (is_at (oid_cmp x) oid));
 }
@@ -99,7 +98,7 @@ rows_added m tips news rows rows' x row u right h = record {
       (λ b. ap is_some (u new ∙ ap (λ (t : Bool). cond t (Some row) (get oid_cmp rows new)) b))
       (λ b. ap is_some (u new ∙ ap (λ (t : Bool). cond t (Some row) (get oid_cmp rows new)) b) ∙ ⊎_elim
       (λ d. h.there new d)
-      (λ d. let same : is_at (oid_cmp x) new ≡ true = subst (λ (z : Oid). is_at (oid_cmp x) z ≡ true) d ((eq_by_cmp_equiv oid_total).refl x) in absurd (cc (same, b)))
+      (λ d. let same : is_at (oid_cmp x) new ≡ true = subst (λ (z : Oid). is_at (oid_cmp x) z ≡ true) d (equals_itself x.0) in absurd (cc (same, b)))
       (Contains-push_cases news x new c))
       (cases_Bool (is_at (oid_cmp x) new));
 }

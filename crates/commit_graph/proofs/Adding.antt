@@ -1,7 +1,7 @@
 -- Lists that grow at their ends by what they lack.
-use Rattle.std.proofs.Common.{◌≡◌, ℕ, ◌+◌, ◌<◌, Bool, true, false, cond, List, [], ◌∷◌, ◌++◌, length, take, get_or, Some, refl, sym, ap, subst, inl, inr, ◌⊎◌, ⊎_elim, ◌∙◌, append_assoc, append-nil, arith}
+use Rattle.std.proofs.Common.{◌≡◌, ℕ, ◌+◌, ◌<◌, Bool, true, false, cond, List, [], ◌∷◌, ◌++◌, length, take, get_or, Some, sym, ap, subst, inl, inr, ◌⊎◌, ⊎_elim, ◌∙◌, append_assoc, append-nil, arith}
 use Rattle.std.specs.Prelude.{Contains, slice_get, map, filter}
-use Rattle.std.proofs.lemmas.List.{take_more, take-append-le}
+use Rattle.std.proofs.lemmas.List.{take_more, take-append-le, map_push, map_more}
 use Rattle.std.proofs.lemmas.List.Elements.{Contains-append_left, Contains-append_right, Contains-push, Contains-push_cases, Contains-append_cases, filter-append}
 use Rattle.std.proofs.lemmas.Option.{slice_get_within, get_or_from_slice_get}
 use Rattle.rad_base.proofs.Members.{contains_nothing}
@@ -71,22 +71,12 @@ pub extends_more : {X : Type 0} {old cur new : List X} (xs : List X) (i : ℕ) (
     → Extends old (take i xs) cur → Adds cur (get_or xs i d) new → Extends old (take (i + 1) xs) new
 extends_more {X} {old} {cur} {new} xs i d l h a = subst (λ (ys : List X). Extends old ys new) (sym (take_more xs i d l)) (extends_push h a)
 
-map_push : {X Y : Type 0} (f : X → Y) (xs : List X) (x : X)
-    → map f (xs ++ x ∷ []) ≡ map f xs ++ f x ∷ []
-map_push f [] x = refl
-map_push {X} {Y} f (y ∷ ys) x = ap (λ (zs : List Y). f y ∷ zs) (map_push f ys x)
-
--- the images of one more item of a list
-pub image_more : {X Y : Type 0} (f : X → Y) (xs : List X) (i : ℕ) (d : X) → i < length xs
-    → map f (take (i + 1) xs) ≡ map f (take i xs) ++ f (get_or xs i d) ∷ []
-image_more f xs i d l = ap (map f) (take_more xs i d l) ∙ map_push f (take i xs) (get_or xs i d)
-
 -- one turn of a loop over the list whose images are added
 pub extends_image : {X Y : Type 0} (f : X → Y) {old cur new : List Y} (xs : List X) (i : ℕ) (d : X)
     → i < length xs → Extends old (map f (take i xs)) cur → Adds cur (f (get_or xs i d)) new
     → Extends old (map f (take (i + 1) xs)) new
 extends_image {X} {Y} f {old} {cur} {new} xs i d l h a =
-    subst (λ (ys : List Y). Extends old ys new) (sym (image_more f xs i d l)) (extends_push h a)
+    subst (λ (ys : List Y). Extends old ys new) (sym (map_more f xs i d l)) (extends_push h a)
 
 -- the same, of lists that are equal
 pub extends_along : {X : Type 0} {old xs ys new new' : List X} → xs ≡ ys → new ≡ new'

@@ -1,8 +1,10 @@
 -- A walk beyond the known names, turn by turn.
 use Rattle.std.proofs.Common.{◌≡◌, ℕ, ◌+◌, ◌≤◌, false, List, [], ◌∷◌, ◌++◌, length, take, map, Option, Some, None, refl, sym, ap, subst, inl, inr, ⊎_elim, ◌∙◌, arith, append-nil, length-append}
 use Rattle.std.specs.Prelude.{Contains, slice_get}
+use Rattle.std.specs.Option.{unwrap_or}
 use Rattle.std.specs.BTreeSet.{BTreeSet, contains}
 use Rattle.std.proofs.lemmas.Option.{slice_get_within}
+use Rattle.rad_base.proofs.Options.{one_value}
 use Rattle.rad_base.specs.declared.names.Oid.{Oid}
 use Rattle.rad_base.specs.Order.{oid_cmp}
 use Rattle.git_object.specs.declared.kind.Kind.{Kind}
@@ -19,12 +21,12 @@ use Rattle.commit_graph.specs.Lists.{Extends, Follows}
 use Rattle.commit_graph.specs.Pairs.{Accepts, IsMissing, IsFit, IsUnfit, pair_of}
 use Rattle.commit_graph.specs.Looks.{HasLinks}
 use Rattle.commit_graph.specs.Beyond.{IsClosedName, AllClosed, IsLinkBeyond, links_in}
-use Rattle.commit_graph.specs.Facts.{IsFormed, IsAccepted, IsFitWith, IsTaken, ShowsFact, IsTested, IsTestedKnown, fact_in, waiting_in, items_of}
+use Rattle.commit_graph.specs.Facts.{IsFormed, IsAccepted, IsFitWith, IsTaken, ShowsFact, IsTested, IsTestedKnown, fact_in, waiting_in}
 use Rattle.rad_base.proofs.Members.{contains_at, contains_head, contains_nothing}
 use Rattle.commit_graph.proofs.Adding.{extends_by, extends_there, take_grown}
 use Rattle.commit_graph.proofs.Walked.{reached_root}
 use Rattle.commit_graph.proofs.Spread.{Spread, spread_follows}
-use Rattle.commit_graph.proofs.PairSteps.{one_object, links_all, links_only, missing_ends, unfit_ends, nothing_follows}
+use Rattle.commit_graph.proofs.PairSteps.{links_all, links_only, missing_ends, unfit_ends, nothing_follows}
 use Rattle.commit_graph.proofs.ClosureTurns.{Judges, Notes, Tally, judges_missing, judges_unfit, judges_fit, tally_start, tally_turn}
 use Rattle.commit_graph.proofs.FactsHold.{FactsHold, AreLearned, learned, links_open, facts_alike, waiting_stays, none_or_some}
 
@@ -71,7 +73,7 @@ accepted_fit : {m : ObjectMap} {p : Root} → IsClosedName m p.oid → IsAccepte
 accepted_fit {m} {p} w a =
     let own : Root = record { oid = p.oid; kind = Some w.kind } in
     let fit = (w.closed own (reached_root own (contains_head own []))).fit in
-    let same : (fit.kind, fit.bytes) ≡ (a.kind, a.bytes) = one_object fit.there a.there in
+    let same : (fit.kind, fit.bytes) ≡ (a.kind, a.bytes) = one_value fit.there a.there in
     record { kind = a.kind; bytes = a.bytes; there = a.there; expected = a.expected; formed = subst (λ (o : Object). IsWellFormed o.0 o.1) same fit.formed }
 
 -- one that is not accepted is unfit
@@ -169,7 +171,7 @@ module _ (m : ObjectMap) (known : BTreeSet Oid) (roots : List Root) (p : Root) (
       turn_again : waiting_in mid p.oid ≡ None
           → Turn m known roots p queue queue' new missing unfit missing' unfit' looked before after
       turn_again e =
-          let t = fit_with shown [] _ _ _ _ _ _ _ (subst (IsFitWith shown) (ap items_of e) s.shows) n a in
+          let t = fit_with shown [] _ _ _ _ _ _ _ (subst (IsFitWith shown) (ap (λ (o : Option (List LinkTo)). unwrap_or o []) e) s.shows) n a in
           let q : queue' ≡ queue = t.0 ∙ append-nil queue in
           record {
             follows = follows_all refl (extends_there (map pair_of (links_in (m p.oid))) q (λ y c. l.holds.opened_links p.oid kind has e y c));
@@ -183,7 +185,7 @@ module _ (m : ObjectMap) (known : BTreeSet Oid) (roots : List Root) (p : Root) (
       turn_open : (ls : List LinkTo) → waiting_in mid p.oid ≡ Some ls
           → Turn m known roots p queue queue' new missing unfit missing' unfit' looked before after
       turn_open ls e =
-          let t = fit_with shown ls _ _ _ _ _ _ _ (subst (IsFitWith shown) (ap items_of e) s.shows) n a in
+          let t = fit_with shown ls _ _ _ _ _ _ _ (subst (IsFitWith shown) (ap (λ (o : Option (List LinkTo)). unwrap_or o []) e) s.shows) n a in
           record {
             follows = follows_all (l.holds.true_waiting p.oid ls e) (extends_by (map pair_of ls) t.0);
             judges = judges_fit linked.fit t.1 t.2;

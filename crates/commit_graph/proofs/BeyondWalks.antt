@@ -3,6 +3,7 @@ use Rattle.std.proofs.Common.{◌≡◌, ℕ, ◌+◌, ◌≤◌, List, [], ◌�
 use Rattle.std.specs.Prelude.{Contains, slice_get}
 use Rattle.std.specs.BTreeSet.{BTreeSet, contains}
 use Rattle.std.proofs.lemmas.Bool.{cases_Bool}
+use Rattle.rad_base.proofs.Options.{one_value}
 use Rattle.rad_base.specs.declared.names.Oid.{Oid}
 use Rattle.rad_base.specs.Order.{oid_cmp}
 use Rattle.commit_graph.specs.declared.root.Root.{Root}
@@ -17,7 +18,6 @@ use Rattle.commit_graph.specs.Beyond.{IsKnown, IsClosedName, AllClosed, IsLinkBe
 use Rattle.rad_base.proofs.Members.{contains_at, contains_head, contains_one}
 use Rattle.commit_graph.proofs.Walked.{reached_root, reached_step, reached_stays, reached_along}
 use Rattle.commit_graph.proofs.Spread.{Spread, spread_end}
-use Rattle.commit_graph.proofs.PairSteps.{one_object}
 use Rattle.commit_graph.proofs.ClosureTurns.{Covers}
 use Rattle.commit_graph.proofs.Repeats.{sum_by-le, sum_by-one}
 use Rattle.commit_graph.proofs.FactsHold.{IsQueuedName, IsOpenedName}
@@ -40,7 +40,7 @@ closed_step {m} {p} {q} closed l = λ r reached.
 own_link : {m : ObjectMap} {p q : Root} (w : IsClosedName m p.oid) → IsLink m p q
     → IsLink m (record { oid = p.oid; kind = Some w.kind }) q
 own_link w l = record {
-  fit = record { kind = l.fit.kind; bytes = l.fit.bytes; there = l.fit.there; expected = ap (λ (o : Object). o.0) (one_object w.there l.fit.there); formed = l.fit.formed };
+  fit = record { kind = l.fit.kind; bytes = l.fit.bytes; there = l.fit.there; expected = ap (λ (o : Object). o.0) (one_value w.there l.fit.there); formed = l.fit.formed };
   link = l.link;
 }
 
@@ -110,7 +110,7 @@ module _ {m : ObjectMap} {roots : List Root} (closed : IsClosed m roots) where
           kind = l.fit.kind;
           bytes = l.fit.bytes;
           there = l.fit.there;
-          expected = subst (λ (o : Object). Accepts p.kind o.0) (one_object held.fit.there l.fit.there) held.fit.expected;
+          expected = subst (λ (o : Object). Accepts p.kind o.0) (one_value held.fit.there l.fit.there) held.fit.expected;
           formed = l.fit.formed;
         };
         link = l.link;

@@ -8,6 +8,7 @@ use Rattle.git_object.specs.declared.kind.Kind.{Kind}
 use Rattle.git_object.specs.declared.kind.Kind.TheVariants.{Commit}
 use Rattle.git_object.specs.declared.link.LinkTo.{LinkTo}
 use Rattle.git_object.specs.Links.{links, IsWellFormed}
+use Rattle.rad_base.proofs.Options.{one_value}
 use Rattle.rad_base.specs.declared.names.Oid.{Oid}
 use Rattle.rad_base.proofs.EachItem.{differ_more}
 use Rattle.rad_base.proofs.Members.{contains_nothing, contains_head, contains_cases, map_has, map_from, filter_from}
@@ -23,7 +24,7 @@ use Rattle.commit_graph.specs.Closures.{IsClosed, IsReached}
 use Rattle.commit_graph.specs.Histories.{IsParent, InHistory, CoversHistory}
 use Rattle.rad_base.specs.Lists.{AllDiffer}
 use Rattle.commit_graph.specs.Chains.{HasParents, IsOnlyParent, IsChain, IsLine, IsReturn, parents_in}
-use Rattle.commit_graph.proofs.PairSteps.{commit_kind, one_object, unfit_apart}
+use Rattle.commit_graph.proofs.PairSteps.{commit_kind, unfit_apart}
 use Rattle.commit_graph.proofs.HistoryWalks.{history_itself}
 use Rattle.commit_graph.proofs.Repeats.{length_within}
 use Rattle.commit_graph.proofs.Walked.{walk_push, reached_root, reached_step}
@@ -208,7 +209,7 @@ pub parents_read : {m : ObjectMap} {p : Root} {oid : Oid} {found : List LinkTo} 
     → HasParents m oid each → each ≡ items
 parents_read {m} {p} {oid} {found} h e are each has =
     let there : m oid ≡ Some (h.fit.kind, h.fit.bytes) = ap (λ (q : Root). m q.oid) (sym e) ∙ h.fit.there in
-    let same : (h.fit.kind, h.fit.bytes) ≡ (Commit, has.bytes) = one_object there has.there in
+    let same : (h.fit.kind, h.fit.bytes) ≡ (Commit, has.bytes) = one_value there has.there in
     has.are ∙ ap (λ (o : Object). parents_in (links o.0 o.1)) (sym same) ∙ ap parents_in (sym h.are) ∙ sym are
 
 -- a pair that is missing or unfit is no commit that has parents

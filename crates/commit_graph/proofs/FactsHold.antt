@@ -1,15 +1,17 @@
 -- What is known of names is true, and each name is looked up and its links are taken once.
-use Rattle.std.proofs.Common.{◌≡◌, ℕ, ◌+◌, Bool, true, false, cond, List, [], ◌∷◌, ◌++◌, length, map, sum_by, Option, Some, None, refl, sym, ap, subst, inl, inr, ◌⊎◌, ⊎_elim, ◌∙◌, arith, length-append}
+use Rattle.std.proofs.Common.{◌≡◌, ℕ, ◌+◌, Bool, true, false, cond, List, ◌∷◌, ◌++◌, length, map, sum_by, Option, Some, None, refl, sym, ap, subst, inl, inr, ◌⊎◌, ⊎_elim, ◌∙◌, arith, length-append}
 use Rattle.std.specs.Prelude.{Contains}
 use Rattle.std.specs.BTreeMap.{is_at}
 use Rattle.std.specs.BTreeSet.{BTreeSet, contains}
 use Rattle.std.proofs.lemmas.Bool.{cases_Bool}
-use Rattle.std.proofs.lemmas.Cmp.{eq_by_cmp_equiv}
+use Rattle.std.proofs.lemmas.List.{length-map}
+use Rattle.std.proofs.lemmas.List.Sums.{sum_by-cons}
 use Rattle.std.proofs.lemmas.List.Elements.{Contains-append_left, Contains-append_right}
 use Rattle.std.proofs.lemmas.Map.Views.{tells_apart}
 use Rattle.rad_base.specs.declared.names.Oid.{Oid}
 use Rattle.rad_base.specs.Order.{oid_cmp}
-use Rattle.rad_base.proofs.NameOrder.{apart, oid_total, oid_exact}
+use Rattle.rad_base.proofs.NameOrder.{apart, equals_itself, oid_exact}
+use Rattle.rad_base.proofs.Options.{one_value, not_nothing}
 use Rattle.git_object.specs.declared.kind.Kind.{Kind}
 use Rattle.git_object.specs.declared.link.LinkTo.{LinkTo}
 use Rattle.commit_graph.specs.declared.root.Root.{Root}
@@ -23,7 +25,6 @@ use Rattle.commit_graph.specs.Beyond.{links_in, link_count}
 use Rattle.commit_graph.specs.Facts.{IsFact, IsLearned, IsLookedUp, fact_in, waiting_in, waiting_after}
 use Rattle.rad_base.proofs.EachItem.{others_from}
 use Rattle.rad_base.proofs.Members.{contains_cases}
-use Rattle.commit_graph.proofs.Repeats.{sum_by-cons}
 
 -- a pair of this name, which is not known, is in the queue
 pub record IsQueuedName (queue : List Root) (known : BTreeSet Oid) (oid : Oid) : Type 0 where
@@ -57,18 +58,15 @@ pub record FactsHold (m : ObjectMap) (known : BTreeSet Oid) (roots queue : List 
 
 -- ---- names are one or two
 
-same_at : (n : Oid) → is_at (oid_cmp n) n ≡ true
-same_at n = (eq_by_cmp_equiv oid_total).refl n
-
 one_or_two : (n q : Oid) → (n ≡ q) ⊎ (n ≡ q → ⊥)
 one_or_two n q = ⊎_elim
     (λ b. inl (tells_apart oid_exact n q b))
-    (λ b. inr (λ e. let same : is_at (oid_cmp n) q ≡ true = subst (λ (z : Oid). is_at (oid_cmp n) z ≡ true) e (same_at n) in absurd (cc (same, b))))
+    (λ b. inr (λ e. let same : is_at (oid_cmp n) q ≡ true = subst (λ (z : Oid). is_at (oid_cmp n) z ≡ true) e (equals_itself n.0) in absurd (cc (same, b))))
     (cases_Bool (is_at (oid_cmp n) q))
 
 at_same : {X : Type 0} (n q : Oid) (v w r : X) → r ≡ cond (is_at (oid_cmp n) q) v w → n ≡ q
     → r ≡ v
-at_same {X} n q v w r e h = e ∙ ap (λ (b : Bool). cond b v w) (subst (λ (z : Oid). is_at (oid_cmp n) z ≡ true) h (same_at n))
+at_same {X} n q v w r e h = e ∙ ap (λ (b : Bool). cond b v w) (subst (λ (z : Oid). is_at (oid_cmp n) z ≡ true) h (equals_itself n.0))
 
 at_other : {X : Type 0} (n q : Oid) (v w r : X) → r ≡ cond (is_at (oid_cmp n) q) v w
     → (n ≡ q → ⊥) → r ≡ w
@@ -77,12 +75,6 @@ at_other {X} n q v w r e h = e ∙ ap (λ (b : Bool). cond b v w) (apart oid_cmp
 pub none_or_some : {X : Type 0} (o : Option X) → (o ≡ None) ⊎ ((x : X) × (o ≡ Some x))
 none_or_some None = inl refl
 none_or_some (Some x) = inr (x, refl)
-
-some_one : {X : Type 0} {o : Option X} {x y : X} → o ≡ Some x → o ≡ Some y → x ≡ y
-some_one e f = cc (e, f)
-
-some_none : {X : Type 0} {o : Option X} {x : X} → o ≡ Some x → o ≡ None → ⊥
-some_none e f = cc (e, f)
 
 -- ---- what waits after a look at the name n
 
@@ -94,17 +86,17 @@ waits_other m (Formed kind) n waiting q ne = at_other n q (Some (links_in (m n))
 
 waits_same : (m : ObjectMap) (f : Fact) (n : Oid) (waiting : Oid → Option (List LinkTo)) (ls : List LinkTo)
     → waiting n ≡ None → waiting_after m f n waiting n ≡ Some ls → ls ≡ links_in (m n)
-waits_same m Missing n waiting ls e h = absurd (some_none h e)
-waits_same m Malformed n waiting ls e h = absurd (some_none h e)
+waits_same m Missing n waiting ls e h = absurd (not_nothing h e)
+waits_same m Malformed n waiting ls e h = absurd (not_nothing h e)
 waits_same m (Formed kind) n waiting ls e h =
-    some_one h (at_same n n (Some (links_in (m n))) (waiting n) _ refl refl)
+    one_value h (at_same n n (Some (links_in (m n))) (waiting n) _ refl refl)
 
 waits_formed : (m : ObjectMap) (f : Fact) (kind : Kind) (n : Oid) (waiting : Oid → Option (List LinkTo))
     → f ≡ Formed kind → waiting_after m f n waiting n ≡ None → ⊥
 waits_formed m Missing kind n waiting e h = absurd cc
 waits_formed m Malformed kind n waiting e h = absurd cc
 waits_formed m (Formed k) kind n waiting e h =
-    some_none (at_same n n (Some (links_in (m n))) (waiting n) _ refl refl) h
+    not_nothing (at_same n n (Some (links_in (m n))) (waiting n) _ refl refl) h
 
 -- ---- a name is learned
 
@@ -132,23 +124,23 @@ module _ {m : ObjectMap} {known : BTreeSet Oid} {roots queue : List Root} {old m
         holds = record {
           true_facts = λ q f e. ⊎_elim
               (λ a. let P : Oid → Type 0 = λ k. fact_in mid k ≡ Some f → IsFact m k f in
-              subst P a (λ e'. subst (IsFact m n) (some_one here e') s.is) e)
+              subst P a (λ e'. subst (IsFact m n) (one_value here e') s.is) e)
               (λ a. h.true_facts q f (sym (facts_other q a) ∙ e)) (one_or_two n q);
           true_waiting = λ q ls e. ⊎_elim
               (λ a. let P : Oid → Type 0 = λ k. waiting_in mid k ≡ Some ls → ls ≡ links_in (m k) in
               subst P a (λ e'. waits_same m fact n (waiting_in old) ls none (sym (s.waiting n) ∙ e')) e)
               (λ a. h.true_waiting q ls (sym (waits_else q a) ∙ e)) (one_or_two n q);
           waiting_known = λ q ls e f. ⊎_elim
-              (λ a. some_none (subst (λ (k : Oid). fact_in mid k ≡ Some fact) a here) f)
+              (λ a. not_nothing (subst (λ (k : Oid). fact_in mid k ≡ Some fact) a here) f)
               (λ a. h.waiting_known q ls (sym (waits_else q a) ∙ e) (sym (facts_other q a) ∙ f)) (one_or_two n q);
           opened_links = λ q kind e g r c. ⊎_elim
               (λ a. let P : Oid → Type 0 = λ k. fact_in mid k ≡ Some (Formed kind) → waiting_in mid k ≡ None → ⊥ in
-              absurd (subst P a (λ e' g'. waits_formed m fact kind n (waiting_in old) (some_one here e') (sym (s.waiting n) ∙ g')) e g))
+              absurd (subst P a (λ e' g'. waits_formed m fact kind n (waiting_in old) (one_value here e') (sym (s.waiting n) ∙ g')) e g))
               (λ a. h.opened_links q kind (sym (facts_other q a) ∙ e) (sym (waits_else q a) ∙ g) r c) (one_or_two n q);
           looked_known = λ q c e. ⊎_elim
-              (λ a. some_none (subst (λ (k : Oid). fact_in mid k ≡ Some fact) a here) e)
+              (λ a. not_nothing (subst (λ (k : Oid). fact_in mid k ≡ Some fact) a here) e)
               (λ a. ⊎_elim
-              (λ b. some_none (subst (λ (k : Oid). fact_in mid k ≡ Some fact) b here) e)
+              (λ b. not_nothing (subst (λ (k : Oid). fact_in mid k ≡ Some fact) b here) e)
               (λ b. h.looked_known q a (sym (facts_other q b) ∙ e)) (one_or_two n q))
               (contains_cases n looked q c);
           opened_known = λ q c e. let ne = fresh q (h.opened_known q c) in h.opened_known q c (sym (facts_other q ne) ∙ e);
@@ -172,10 +164,6 @@ module _ {m : ObjectMap} {known : BTreeSet Oid} {roots queue : List Root} {old m
   }
   learned (inr s) = looked_up s
 
-length_map : {X Y : Type 0} (f : X → Y) (xs : List X) → length (map f xs) ≡ length xs
-length_map f [] = refl
-length_map f (x ∷ xs) = omega (arith, length_map f xs)
-
 -- ---- the links of the name n go onto the queue
 
 pub links_open : {m : ObjectMap} {known : BTreeSet Oid} {roots queue queue' : List Root} {ls : List LinkTo} {facts facts' : Oid → Option Fact} {waiting waiting' : Oid → Option (List LinkTo)} {looked opened : List Oid} {n : Oid}
@@ -192,10 +180,10 @@ links_open {m} {known} {roots} {queue} {queue'} {ls} {facts} {facts'} {waiting} 
     record {
       true_facts = λ q f a. h.true_facts q f (sym (same q) ∙ a);
       true_waiting = λ q ks a. ⊎_elim
-          (λ b. absurd (some_none a (subst (λ (k : Oid). waiting' k ≡ None) b now)))
+          (λ b. absurd (not_nothing a (subst (λ (k : Oid). waiting' k ≡ None) b now)))
           (λ b. h.true_waiting q ks (sym (else' q b) ∙ a)) (one_or_two n q);
       waiting_known = λ q ks a f. ⊎_elim
-          (λ b. some_none a (subst (λ (k : Oid). waiting' k ≡ None) b now))
+          (λ b. not_nothing a (subst (λ (k : Oid). waiting' k ≡ None) b now))
           (λ b. h.waiting_known q ks (sym (else' q b) ∙ a) (sym (same q) ∙ f)) (one_or_two n q);
       opened_links = λ q kind a g r c. ⊎_elim
           (λ b. let P : Oid → Type 0 = λ k. Contains (map pair_of (links_in (m k))) r → Contains queue' r in
@@ -209,10 +197,10 @@ links_open {m} {known} {roots} {queue} {queue'} {ls} {facts} {facts'} {waiting} 
           (λ b. subst (λ (k : Oid). waiting' k ≡ None) b now)
           (λ b. ⊎_elim (λ d. subst (λ (k : Oid). waiting' k ≡ None) d now) (λ d. else' q d ∙ h.opened_taken q b) (one_or_two n q)) (contains_cases n opened q c);
       looked_once = h.looked_once;
-      opened_once = (others_from n opened (λ c. some_none s (h.opened_taken n c)), h.opened_once);
+      opened_once = (others_from n opened (λ c. not_nothing s (h.opened_taken n c)), h.opened_once);
       looked_queued = λ q c. queued q (h.looked_queued q c);
       opened_queued = λ q c. ⊎_elim (λ b. subst (IsOpenedName m queue' known) b (opens n here)) (λ b. opens q (h.opened_queued q b)) (contains_cases n opened q c);
-      lengths = omega (arith, h.lengths, ap length e, length-append queue (map pair_of ls), length_map pair_of ls, ap length (h.true_waiting n ls s), sum_by-cons (link_count m) n opened);
+      lengths = omega (arith, h.lengths, ap length e, length-append queue (map pair_of ls), length-map ls pair_of, ap length (h.true_waiting n ls s), sum_by-cons (link_count m) n opened);
     }
 
 -- the same, of facts that are equal at each name

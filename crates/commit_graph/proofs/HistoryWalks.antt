@@ -1,5 +1,5 @@
 -- A walk over parents finds the history, which has the histories of its commits.
-use Rattle.std.proofs.Common.{◌≡◌, List, [], ◌∷◌, ◌++◌, ◌↔◌, Option, Some, refl, sym, ap, subst, ◌∙◌}
+use Rattle.std.proofs.Common.{◌≡◌, List, [], ◌∷◌, ◌++◌, Option, Some, refl, sym, ap, subst, ◌∙◌}
 use Rattle.std.specs.Prelude.{Contains}
 use Rattle.git_object.specs.declared.kind.Kind.{Kind}
 use Rattle.git_object.specs.declared.kind.Kind.TheVariants.{Commit}
@@ -9,7 +9,7 @@ use Rattle.commit_graph.specs.declared.root.Root.{Root}
 use Rattle.commit_graph.specs.Objects.{ObjectMap}
 use Rattle.commit_graph.specs.Pairs.{as_commit}
 use Rattle.commit_graph.specs.Walks.{Walk, Reached}
-use Rattle.commit_graph.specs.Histories.{IsParent, InHistory, HasCommit}
+use Rattle.commit_graph.specs.Histories.{IsParent, InHistory}
 use Rattle.commit_graph.proofs.Walked.{reached_root, reached_stays, walk_append}
 use Rattle.commit_graph.proofs.Spread.{Spread, spread_end}
 
@@ -37,12 +37,6 @@ pub history_none : (m : ObjectMap) (old new : Oid) {done found : List Root}
     → ((q : Root) → Contains done q → q.oid ≡ old → ⊥) → InHistory m old new → ⊥
 history_none m old new {done} {found} h e other r =
     other (as_commit old) (subst (λ (xs : List Root). Contains xs (as_commit old)) (sym e) (spread_end h e (as_commit old) r)) refl
-
--- all was followed: what was found is the history
-pub history_all : (m : ObjectMap) (new : Oid) {done found : List Root}
-    → Spread (IsParent m) (as_commit new ∷ []) done found → done ≡ found → (old : Oid)
-    → HasCommit found old ↔ InHistory m old new
-history_all m new h e old = (λ c. h.sound (as_commit old) c, λ r. spread_end h e (as_commit old) r)
 
 -- a commit lies in its own history
 pub history_itself : (m : ObjectMap) (oid : Oid) → InHistory m oid oid

@@ -1,12 +1,11 @@
 -- The least name of which a property holds, over the pairs of a list.
-use Rattle.std.proofs.Common.{◌≡◌, List, [], ◌∷◌, ◌++◌, Option, Some, None, sym, ap, subst, inl, inr, ◌⊎◌, ⊎_elim, ◌∙◌}
+use Rattle.std.proofs.Common.{◌≡◌, List, [], ◌∷◌, ◌++◌, Option, Some, None, refl, sym, ap, subst, inl, inr, ◌⊎◌, ⊎_elim, ◌∙◌}
 use Rattle.std.specs.Prelude.{Contains}
-use Rattle.std.specs.Cmp.{tied_itself}
 use Rattle.std.specs.declared.cmp.Ordering.TheVariants.{Less}
 use Rattle.std.proofs.lemmas.List.Elements.{Contains-push_cases, Contains-append_left, Contains-push}
 use Rattle.rad_base.specs.declared.names.Oid.{Oid}
 use Rattle.rad_base.specs.Order.{oid_cmp}
-use Rattle.rad_base.proofs.NameOrder.{oid_total}
+use Rattle.rad_base.proofs.NameOrder.{oid_total, not_below_itself}
 use Rattle.commit_graph.specs.declared.root.Root.{Root}
 use Rattle.commit_graph.specs.Looks.{IsLesser}
 use Rattle.commit_graph.specs.Closures.{IsLeast, HasNone}
@@ -50,8 +49,30 @@ among_cases P done done' x oid e h =
     (Contains-push_cases done x h.pair (subst (λ (xs : List Root). Contains xs h.pair) e h.here))
 
 -- a name is not below one that it is
-pub not_below_itself : (a b : Oid) → a ≡ b → oid_cmp b a ≡ Less → ⊥
-not_below_itself a b e h = cc (tied_itself oid_total b, subst (λ (x : Oid). oid_cmp b x ≡ Less) e h)
+not_below : (a b : Oid) → a ≡ b → oid_cmp b a ≡ Less → ⊥
+not_below a b e h = not_below_itself b.0 (subst (λ (x : Oid). oid_cmp b x ≡ Less) e h)
+
+-- the least so far, where P' holds of one more name than P
+pub least_lower : (P P' : Oid → Type 0) (x : Oid) (best : Option Oid) (next : Oid)
+    → ((n : Oid) → P n → P' n) → ((n : Oid) → P' n → P n ⊎ (x ≡ n)) → P' x → IsLesser best x next
+    → LeastSoFar P best → IsLeast P' next
+least_lower P P' x None next more cases here l h = record {
+  holds = subst P' (sym l) here;
+  least = λ n a lt. ⊎_elim (λ b. h n b) (λ b. not_below next n (l ∙ b) lt) (cases n a);
+}
+least_lower P P' x (Some best) next more cases here (inl (below, l)) h = record {
+  holds = subst P' (sym l) here;
+  least = λ n a lt. ⊎_elim
+      (λ b. h.least n b (oid_total.trans n x best (subst (λ (y : Oid). oid_cmp n y ≡ Less) l lt) below))
+      (λ b. not_below next n (l ∙ b) lt) (cases n a);
+}
+least_lower P P' x (Some best) next more cases here (inr (above, l)) h = record {
+  holds = subst P' (sym l) (more best h.holds);
+  least = λ n a lt. ⊎_elim
+      (λ b. h.least n b (subst (λ (y : Oid). oid_cmp n y ≡ Less) l lt))
+      (λ b. above (subst (λ (y : Oid). oid_cmp y best ≡ Less) (sym b) (subst (λ (y : Oid). oid_cmp n y ≡ Less) l lt)))
+      (cases n a);
+}
 
 -- an item of which P does not hold changes nothing
 least_same : (P : Root → Type 0) (done done' : List Root) (x : Root) (best : Option Oid)
@@ -67,23 +88,9 @@ least_same P done done' x (Some best) e other h = record {
 least_more : (P : Root → Type 0) (done done' : List Root) (x : Root) (best : Option Oid) (next : Oid)
     → done' ≡ done ++ x ∷ [] → P x → IsLesser best x.oid next → LeastSoFar (IsAmong P done) best
     → IsLeast (IsAmong P done') next
-least_more P done done' x None next e p l h = record {
-  holds = among_new P done done' x next e p (sym l);
-  least = λ n a. ⊎_elim (λ b. absurd (h n b)) (λ b. not_below_itself next n (l ∙ b.1)) (among_cases P done done' x n e a);
-}
-least_more P done done' x (Some best) next e p (inl (below, l)) h = record {
-  holds = among_new P done done' x next e p (sym l);
-  least = λ n a. ⊎_elim
-      (λ b lt. h.least n b (oid_total.trans n x.oid best (subst (λ (y : Oid). oid_cmp n y ≡ Less) l lt) below))
-      (λ b. not_below_itself next n (l ∙ b.1)) (among_cases P done done' x n e a);
-}
-least_more P done done' x (Some best) next e p (inr (above, l)) h = record {
-  holds = subst (IsAmong P done') (sym l) (among_old P done done' x best e h.holds);
-  least = λ n a. ⊎_elim
-      (λ b lt. h.least n b (subst (λ (y : Oid). oid_cmp n y ≡ Less) l lt))
-      (λ b lt. above (subst (λ (y : Oid). oid_cmp y best ≡ Less) (sym b.1) (subst (λ (y : Oid). oid_cmp n y ≡ Less) l lt)))
-      (among_cases P done done' x n e a);
-}
+least_more P done done' x best next e p l h =
+    least_lower (IsAmong P done) (IsAmong P done') x.oid best next (λ n a. among_old P done done' x n e a)
+    (λ n a. ⊎_elim (λ b. inl b) (λ b. inr b.1) (among_cases P done done' x n e a)) (among_new P done done' x x.oid e p refl) l h
 
 -- the best so far is lowered where P holds of the item
 abbrev pub Noted : (Root → Type 0) → Root → Option Oid → Option Oid → Type 0

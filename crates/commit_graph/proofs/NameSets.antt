@@ -4,14 +4,13 @@ use Rattle.std.specs.Prelude.{Contains, IsTrue, ◌↔◌}
 use Rattle.std.specs.BTreeSet.{BTreeSet, contains, IsOrdered}
 use Rattle.std.specs.BTreeMap.{is_at}
 use Rattle.std.specs.List.Sorted.{IsStrictlySortedBy}
-use Rattle.std.proofs.lemmas.Cmp.{eq_by_cmp_equiv}
 use Rattle.std.proofs.lemmas.Bool.{cases_Bool}
 use Rattle.std.proofs.lemmas.List.{take_more, take-append-drop}
 use Rattle.std.proofs.lemmas.List.Elements.{Contains-append_left, Contains-push, Contains-push_cases}
 use Rattle.std.proofs.lemmas.Map.Views.{tells_apart, btree_set_contains_iff}
 use Rattle.rad_base.specs.declared.names.Oid.{Oid}
 use Rattle.rad_base.specs.Order.{oid_cmp}
-use Rattle.rad_base.proofs.NameOrder.{oid_total, oid_exact}
+use Rattle.rad_base.proofs.NameOrder.{oid_total, oid_exact, equals_itself}
 use Rattle.rad_base.proofs.Members.{contains_nothing}
 use Rattle.commit_graph.specs.declared.root.Root.{Root}
 use Rattle.commit_graph.specs.Objects.{ObjectMap}
@@ -38,7 +37,7 @@ told_push old now new pairs x u h oid = (
       (λ b. u oid ∙ ap (λ (t : Bool). cond t true (contains oid_cmp now oid)) b)
       (λ b. u oid ∙ ap (λ (t : Bool). cond t true (contains oid_cmp now oid)) b ∙ (h oid).1 (⊎_elim (λ a. inl a)
       (λ a. ⊎_elim (λ c. inr (a.0, c, a.2))
-      (λ c. let same : is_at (oid_cmp x.oid) oid ≡ true = subst (λ (z : Oid). is_at (oid_cmp x.oid) z ≡ true) (ap (λ (r : Root). r.oid) c ∙ a.2) ((eq_by_cmp_equiv oid_total).refl x.oid) in
+      (λ c. let same : is_at (oid_cmp x.oid) oid ≡ true = subst (λ (z : Oid). is_at (oid_cmp x.oid) z ≡ true) (ap (λ (r : Root). r.oid) c ∙ a.2) (equals_itself x.oid.0) in
       absurd (cc (same, b)))
       (Contains-push_cases pairs x a.0 a.1)) k))
       (cases_Bool (is_at (oid_cmp x.oid) oid)),

@@ -9,7 +9,7 @@ use Rattle.rad_base.proofs.NameOrder.{equal_from_is_eq, apart, oid_exact}
 use Rattle.git_object.specs.Names.{name}
 use Rattle.commit_graph.specs.declared.held.Held.{Held}
 use Rattle.commit_graph.specs.Objects.{Object, IsNamed}
-use Rattle.commit_graph.specs.Memory.{content_of, object_of, kept_or, AddsObject}
+use Rattle.commit_graph.specs.Memory.{content_of, object_of, AddsObject}
 
 none_held : (held : Option Held) → is_some held ≡ false → held ≡ None
 none_held None e = refl
@@ -21,7 +21,7 @@ module _ (old new : BTreeMap Oid Held) (oid : Oid) (held : Held) (u : Updates oi
       → (held.kind, held.bytes.items) ≡ object
       → AddsObject (content_of old) oid object (content_of new)
   adds_object object fresh e = record {
-    here = ap object_of u.1 ∙ ap Some e ∙ sym (ap (λ (o : Option Held). Some (kept_or (object_of o) object)) (none_held _ fresh));
+    here = ap object_of u.1 ∙ ap Some e ∙ sym (ap (λ (o : Option Held). Some (unwrap_or (object_of o) object)) (none_held _ fresh));
     others = λ other apart_from. ap object_of (u.2 other (apart oid_cmp oid_exact oid other apart_from));
   }
 

@@ -1,7 +1,6 @@
 -- A pair is missing, unfit or fit, and only a fit one has links.
-use Rattle.std.proofs.Common.{◌≡◌, ℕ, true, List, [], Option, Some, Result, Ok, Err, inl, inr, ◌⊎◌, refl, sym, ap, subst, ◌∙◌}
+use Rattle.std.proofs.Common.{◌≡◌, ℕ, true, List, [], Some, Result, Ok, Err, inl, inr, ◌⊎◌, refl, sym, ap, subst, ◌∙◌}
 use Rattle.std.specs.Prelude.{Contains, map, filter, IfOk}
-use Rattle.std.specs.Option.{unwrap_or}
 use Rattle.git_object.specs.declared.kind.Kind.{Kind}
 use Rattle.git_object.specs.declared.kind.Kind.TheVariants.{Blob, Tree, Commit, Tag}
 use Rattle.git_object.specs.declared.link.LinkTo.{LinkTo}
@@ -15,12 +14,9 @@ use Rattle.commit_graph.specs.Pairs.{Accepts, IsMissing, IsFit, IsUnfit, IsLink,
 use Rattle.commit_graph.specs.Lists.{Extends, Follows}
 use Rattle.commit_graph.specs.Histories.{IsParent}
 use Rattle.commit_graph.specs.Looks.{HasLinks, Reads, Shows}
+use Rattle.rad_base.proofs.Options.{one_value}
 use Rattle.rad_base.proofs.Members.{contains_nothing, filter_has, filter_from, map_has, map_from}
 use Rattle.commit_graph.proofs.Adding.{extends_same}
-
--- a name has one object
-pub one_object : {found : Option Object} {a b : Object} → found ≡ Some a → found ≡ Some b → a ≡ b
-one_object {found} {a} {b} e f = ap (λ (o : Option Object). unwrap_or o a) (sym e ∙ f)
 
 -- a pair without an object is not fit
 pub missing_unfit : {objects : ObjectMap} {p : Root} → IsMissing objects p → IsFit objects p → ⊥
@@ -33,7 +29,7 @@ missing_apart h f = cc (h, f.there)
 -- an unfit pair is not fit
 pub unfit_apart : {objects : ObjectMap} {p : Root} → IsUnfit objects p → IsFit objects p → ⊥
 unfit_apart {objects} {p} h f =
-    let same : (f.kind, f.bytes) ≡ (h.kind, h.bytes) = one_object f.there h.there in
+    let same : (f.kind, f.bytes) ≡ (h.kind, h.bytes) = one_value f.there h.there in
     h.unfit
     (subst (Accepts p.kind) (ap (λ (o : Object). o.0) same) f.expected)
     (subst (λ (o : Object). IsWellFormed o.0 o.1) same f.formed)
@@ -42,7 +38,7 @@ unfit_apart {objects} {p} h f =
 pub links_all : {objects : ObjectMap} {p : Root} {found : List LinkTo} → HasLinks objects p found
     → (q : Root) → IsLink objects p q → Contains (map pair_of found) q
 links_all {objects} {p} {found} h q l =
-    let same : (l.fit.kind, l.fit.bytes) ≡ (h.fit.kind, h.fit.bytes) = one_object l.fit.there h.fit.there in
+    let same : (l.fit.kind, l.fit.bytes) ≡ (h.fit.kind, h.fit.bytes) = one_value l.fit.there h.fit.there in
     subst (λ (ls : List LinkTo). Contains (map pair_of ls) q)
     (ap (λ (o : Object). links o.0 o.1) same ∙ sym h.are) l.link
 

@@ -1,7 +1,7 @@
 -- Sums over lists without repeats.
-use Rattle.std.proofs.Common.{◌≡◌, ℕ, ◌+◌, ◌≤◌, List, [], ◌∷◌, ◌++◌, length, sum_by, refl, sym, ap, subst, ⊎_elim, ◌∙◌, arith, zero-add}
+use Rattle.std.proofs.Common.{◌≡◌, ℕ, ◌+◌, ◌≤◌, List, [], ◌∷◌, ◌++◌, length, sum_by, refl, sym, ap, subst, ⊎_elim, ◌∙◌, arith}
 use Rattle.std.specs.Prelude.{Contains}
-use Rattle.std.proofs.lemmas.List.Sums.{sum_by-append}
+use Rattle.std.proofs.lemmas.List.Sums.{sum_by-append, sum_by-cons}
 use Rattle.std.proofs.lemmas.List.Elements.{Contains-append_left, Contains-append_right, Contains-append_cases}
 use Rattle.rad_base.specs.Lists.{AllDiffer}
 use Rattle.rad_base.proofs.EachItem.{lacks_other}
@@ -27,11 +27,6 @@ left_out a b x y ne h =
     ⊎_elim (λ c. Contains-append_left a b y c)
     (λ c. ⊎_elim (λ d. absurd (ne (sym d))) (λ d. Contains-append_right a b y d) (contains_cases x b y c))
     (Contains-append_cases a (x ∷ b) y h)
-
--- a sum by its first item; `sum_by` folds from the left
-pub sum_by-cons : {X : Type 0} (f : X → ℕ) (x : X) (xs : List X)
-    → sum_by f (x ∷ xs) ≡ f x + sum_by f xs
-sum_by-cons f x xs = sum_by-append f (x ∷ []) xs ∙ ap (λ (n : ℕ). n + sum_by f xs) (zero-add (f x))
 
 -- a sum over a list without repeats is at most that over a list with each of its items
 pub sum_by-le : {X : Type 0} (f : X → ℕ) (xs ys : List X) → AllDiffer xs

@@ -1,5 +1,6 @@
 -- What is known of a name that was looked up, and what the test of a pair comes to.
 use Rattle.std.specs.Prelude.{◌≡◌, ℕ, ◌+◌, ◌⊎◌, true, false, cond, List, [], Option, Some, None, option_map}
+use Rattle.std.specs.Option.{unwrap_or}
 use Rattle.std.specs.BTreeMap.{get, is_at}
 use Rattle.std.specs.BTreeSet.{BTreeSet, contains}
 use Rattle.rad_base.specs.declared.names.Oid.{Oid}
@@ -44,11 +45,6 @@ fact_in facts oid = get oid_cmp facts.facts oid
 abbrev pub waiting_in : Facts → Oid → Option (List LinkTo)
 waiting_in facts oid = option_map (λ v. v.items) (get oid_cmp facts.waiting oid)
 
--- the links, none where none wait
-abbrev pub items_of : Option (List LinkTo) → List LinkTo
-items_of None = []
-items_of (Some items) = items
-
 -- the links that wait once a name has this fact
 abbrev pub waiting_after : ObjectMap → Fact → Oid → (Oid → Option (List LinkTo)) → Oid → Option (List LinkTo)
 waiting_after objects Missing oid waiting other = waiting other
@@ -84,7 +80,7 @@ IsFitWith (looked.Fit links) found = links.items ≡ found
 
 -- the links that waited at a name were taken
 pub record IsTaken (oid : Oid) (mid new : Facts) (shown : Looked) : Type 0 where
-  pub shows : IsFitWith shown (items_of (waiting_in mid oid))
+  pub shows : IsFitWith shown (unwrap_or (waiting_in mid oid) [])
   pub facts : (other : Oid) → fact_in new other ≡ fact_in mid other
   pub waiting : (other : Oid) → waiting_in new other ≡ cond (is_at (oid_cmp oid) other) None (waiting_in mid other)
 

@@ -1,5 +1,6 @@
 -- What a store in memory holds.
 use Rattle.std.specs.Prelude.{◌≡◌, Option, Some, None}
+use Rattle.std.specs.Option.{unwrap_or}
 use Rattle.std.specs.BTreeMap.{BTreeMap, get}
 use Rattle.rad_base.specs.declared.names.Oid.{Oid}
 use Rattle.rad_base.specs.Order.{oid_cmp}
@@ -15,12 +16,7 @@ object_of (Some held) = Some (held.kind, held.bytes.items)
 abbrev pub content_of : BTreeMap Oid Held → ObjectMap
 content_of held = λ oid. object_of (get oid_cmp held oid)
 
--- the object, unless there is one
-abbrev pub kept_or : Option Object → Object → Object
-kept_or None object = object
-kept_or (Some held) object = held
-
 -- the object is held under the name, which keeps what it held; all other names stay
 pub record AddsObject (old : ObjectMap) (oid : Oid) (object : Object) (new : ObjectMap) : Type 0 where
-  pub here : new oid ≡ Some (kept_or (old oid) object)
+  pub here : new oid ≡ Some (unwrap_or (old oid) object)
   pub others : (other : Oid) → (other ≡ oid → ⊥) → new other ≡ old other

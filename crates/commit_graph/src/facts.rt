@@ -1,10 +1,10 @@
 // What is known of the names that a walk looked up, each of them once.
-ghost use Rattle.std.specs.Prelude.{◌≡◌, ◌≤◌, ◌+◌, IfOk, None, cond};
+ghost use Rattle.std.specs.Prelude.{◌≡◌, ◌≤◌, ◌+◌, [], IfOk, None, cond};
 ghost use Rattle.std.specs.BTreeMap.{is_at};
-ghost use Rattle.std.specs.Option.{ForSome};
+ghost use Rattle.std.specs.Option.{ForSome, unwrap_or};
 ghost use Rattle.rad_base.specs.Order.{oid_cmp};
 ghost use Rattle.commit_graph.specs.Faults.{HasCause};
-ghost use Rattle.commit_graph.specs.Facts.{IsLearned, fact_in, waiting_in, items_of};
+ghost use Rattle.commit_graph.specs.Facts.{IsLearned, fact_in, waiting_in};
 
 use crate::look::{Looked, read};
 use crate::{GetFault, Objects};
@@ -79,7 +79,7 @@ impl Facts {
 
     /// Takes the links of a name that wait; none where they were taken before.
     pub(crate) fn take_links(&mut self, alloc: Global, oid: Oid) -> Vec<LinkTo>
-        ensures links { result.items ≡ items_of (waiting_in self.old oid) }
+        ensures links { result.items ≡ unwrap_or (waiting_in self.old oid) [] }
         ensures facts { (other : Oid) → fact_in self.new other ≡ fact_in self.old other }
         ensures waiting { (other : Oid) → waiting_in self.new other
             ≡ cond (is_at (oid_cmp oid) other) None (waiting_in self.old other) }

@@ -3,8 +3,7 @@ use Rattle.std.proofs.lemmas.List.{take_all}
 use Rattle.commit_graph.specs.Pairs.{as_commit}
 use Rattle.std.specs.Prelude.{map}
 use Rattle.commit_graph.proofs.LookUps.{looks_turn, looks_all, looks_more, history_cover, commits_many}
-use Rattle.commit_graph.proofs.HistoryWalks.{history_all}
-use Rattle.commit_graph.proofs.Spread.{spread_follows}
+use Rattle.commit_graph.proofs.Spread.{spread_follows, spread_all}
 use Rattle.commit_graph.proofs.history.history_of.Goals as goal
 
 pub loop-i-preserved : goal.loop-i-preserved
@@ -23,7 +22,7 @@ loop-i-preserved g c = record {
 pub returns-clause-told : goal.returns-clause-told
 returns-clause-told g c = λ m e.
     let all : take c.loop-i.i c.loop-i.found ≡ c.loop-i.found = take_all c.loop-i.i c.loop-i.found (omega arith) in
-    history_all m c.args.new.now (c.loop-i.invariant.spread m e) all
+    λ old. spread_all (c.loop-i.invariant.spread m e) all (as_commit old)
 
 pub returns-in_err-follow_parents-clause-looked : goal.returns-in_err-follow_parents-clause-looked
 returns-in_err-follow_parents-clause-looked g c = λ m e commits cover.
