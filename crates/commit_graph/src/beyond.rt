@@ -42,8 +42,8 @@ fn is_accepted<O: Objects>(objects: &mut O, pair: Root) -> Result<bool, GetFault
     }
 }
 
-/// Tests a pair, which is one step: what it shows, with the links that are followed from it. A known
-/// name has none, and another gives its links once.
+/// Tests a pair, which is one step: what it shows, with the links that are followed from it. A
+/// known name has none, and another gives its links once.
 fn test_pair<O: Objects, L: Ledger>(
     alloc: Global,
     objects: &mut O,

@@ -39,9 +39,8 @@ pub(crate) fn answer(missing: Option<Oid>, unfit: Option<Oid>) -> Closure
     }
 }
 
-/// Whether all that the roots reach is there, of its expected kind and well formed. Each pair that is
-/// reached is looked up once.
-/// `Err` is the fault of a look-up, or `NoMemory`.
+/// Whether all that the roots reach is there, of its expected kind and well formed. Each pair that
+/// is reached is looked up at most once. `Err` is the fault of a look-up, or `NoMemory`.
 pub fn closure<O: Objects>(
     alloc: Global,
     objects: &mut O,

@@ -70,8 +70,7 @@ impl History {
 }
 
 /// The history of a commit: the commits to which parent links alone lead from it, itself included.
-/// Each is looked up once.
-/// `Err` is the fault of a look-up, or `NoMemory`.
+/// Each is looked up at most once. `Err` is the fault of a look-up, or `NoMemory`.
 pub fn history_of<O: Objects>(
     alloc: Global,
     objects: &mut O,

@@ -74,8 +74,7 @@ fn names_of(alloc: Global, pairs: &[Root]) -> Result<Vec<Oid>, AllocError>
 }
 
 /// The names that are reached from the roots, rising, each once, also those without an object. Each
-/// pair that is reached is looked up once.
-/// `Err` is the fault of a look-up, or `NoMemory`.
+/// pair that is reached is looked up at most once. `Err` is the fault of a look-up, or `NoMemory`.
 pub fn reached<O: Objects>(alloc: Global, objects: &mut O, roots: &[Root]) -> Result<Oids, GetFault>
     ensures rising { IfOk result (IsStrictlySortedBy oid_cmp) }
     ensures told { ForSome (O.content objects.old)

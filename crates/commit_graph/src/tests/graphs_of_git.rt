@@ -1,5 +1,5 @@
-// Answers on small graphs. Where all is closed they are those of `git rev-list --objects`, histories
-// those of `git merge-base --is-ancestor`.
+// Answers on small graphs. Where all is closed they are those of `git rev-list --objects`,
+// histories those of `git merge-base --is-ancestor`.
 use super::graphs::GRAPHS;
 use super::more_graphs::MORE_GRAPHS;
 use crate::answer::Closure;
@@ -9,8 +9,8 @@ use rad_base::{NoMemory, Oid, parse_oid};
 use std::alloc::Global;
 use std::test::Fail;
 
-/// A graph, with what is asked and answered. Names go by their numbers: those without an object from
-/// 0, then the objects. In a content `%` and a letter stand for the bytes of a name, `#` and a
+/// A graph, with what is asked and answered. Names go by their numbers: those without an object
+/// from 0, then the objects. In a content `%` and a letter stand for the bytes of a name, `#` and a
 /// letter for its digits, A for number 0, and `~` for an author, a committer and an empty line.
 pub(crate) struct Graph {
     pub(crate) absent: &'static [&'static [u8]],

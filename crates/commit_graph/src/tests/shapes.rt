@@ -1,6 +1,6 @@
-// Trees, blobs, malformed trees and missing objects: three of them with each kind of entry, four with
-// directories alone. Cycles are among them: an object's hash can't be had ahead of its content, so
-// the objects here go by made names.
+// Trees, blobs, malformed trees and missing objects: three of them with each kind of entry, four
+// with directories alone. Cycles are among them: an object's hash can't be had ahead of its
+// content, so the objects here go by made names.
 ghost use Rattle.std.specs.Prelude.{◌≡◌, ◌<◌};
 
 use crate::{GetFault, Objects, Root, closure, closure_beyond, closure_by_lists};
