@@ -1,5 +1,5 @@
 -- What the table says of candidates is what histories say, and the head that follows.
-use Rattle.std.proofs.Common.{◌≡◌, ℕ, Bool, true, false, not, ◌&&◌, List, [], ◌∷◌, ◌↔◌, Some, None, Result, Ok, Err, refl, sym, subst, inl, inr, ◌⊎◌, ⊎_elim, nat_le, arith}
+use Rattle.std.proofs.Common.{◌≡◌, ℕ, Bool, true, false, not, List, [], ◌∷◌, ◌↔◌, Some, None, Result, Ok, Err, refl, sym, subst, inl, inr, ◌⊎◌, ⊎_elim, nat_le, arith}
 use Rattle.std.specs.Prelude.{Contains, filter, IfOk}
 use Rattle.std.specs.List.{list_any, list_all}
 use Rattle.std.proofs.lemmas.Bool.{false≢true, and_parts, and_from, leb-true, le-leb, or_cases, or_left, or_right}
