@@ -13,7 +13,7 @@ use Rattle.git_object.specs.declared.kind.Kind.TheVariants as kinds
 use Rattle.git_object.specs.declared.mode.Mode.{Mode}
 use Rattle.git_object.specs.declared.mode.Mode.TheVariants.{File, Executable, GroupFile, Symlink, Directory, Gitlink}
 use Rattle.git_object.proofs.Commits.{one_commit}
-use Rattle.git_object.proofs.ReadBack.{some_is}
+use Rattle.rad_base.proofs.Options.{some_is}
 use Rattle.git_object.proofs.TreeTexts.{one_tree}
 use Rattle.commit_graph.specs.Objects.{Object, ObjectMap}
 use Rattle.rad_base.proofs.NameOrder.{not_below_itself}

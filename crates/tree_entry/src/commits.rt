@@ -33,7 +33,7 @@ fn tree_in(bytes: &[u8]) -> Option<CommitTree>
 }
 
 /// The tree of a commit. None where the commit is not there, is of another kind or not in its
-/// grammar.
+/// grammar. `GetFault` as `Objects::get` answers it.
 pub fn commit_tree<O: Objects>(objects: &mut O, oid: &Oid) -> Result<Option<CommitTree>, GetFault>
     ensures told { ForSome (O.content objects.old) (λ m. IfOk result (Shows m oid.now)) }
     ensures kept { O.content objects.new ≡ O.content objects.old }
@@ -49,7 +49,8 @@ pub fn commit_tree<O: Objects>(objects: &mut O, oid: &Oid) -> Result<Option<Comm
 }
 
 /// The object that an entry of a commit's tree links to, as `find_entry` finds it. None also where
-/// the commit is not there, is of another kind or not in its grammar.
+/// the commit is not there, is of another kind or not in its grammar. `GetFault` as `Objects::get`
+/// answers it.
 pub fn commit_entry<O: Objects>(
     objects: &mut O,
     oid: &Oid,

@@ -45,10 +45,12 @@ fn entry_in(bytes: &[u8], kind: Kind, name: &[u8]) -> Option<Oid>
 }
 
 /// The object that the entry of this name in a tree links to, as one of this kind: of kind Tree it
-/// is a directory's, of kind Blob that of a file or a symbolic link.
+/// is a directory's, of kind Blob that of a file or a symbolic link. The kinds Commit and Tag find
+/// nothing.
 ///
 /// None where the tree is not there, is of another kind or not in its grammar, or has no such
-/// entry. A directory and a file of one name are two entries.
+/// entry. A directory and a file of one name are two entries. `GetFault` as `Objects::get` answers
+/// it.
 pub fn find_entry<O: Objects>(
     objects: &mut O,
     tree: &Oid,

@@ -11,8 +11,11 @@ use git_object::Kind;
 use rad_base::{Oid, Rid};
 
 /// The blob of this name in the directory `embeds` of a commit's tree: `radicle.json` is the
-/// identity document, `signatures` those of the delegates. None where one on the way is not there,
-/// of another kind or not in its grammar.
+/// identity document, `signatures` those of the delegates. This is after the Radicle Heartwood
+/// protocol, in this project's own form.
+///
+/// None where one on the way is not there, of another kind or not in its grammar, or the entry
+/// itself is lacking. `GetFault` as `Objects::get` answers it.
 pub fn embedded<O: Objects>(
     objects: &mut O,
     oid: &Oid,
@@ -40,7 +43,9 @@ fn is_named_after(document: Option<Oid>, rid: &Rid) -> bool
 }
 
 /// Whether a commit is an identity root of the repository: it has no parent, and its identity
-/// document is the blob that the repository is named after. The blob itself need not be there.
+/// document is the blob that the repository is named after. The blob itself need not be there. This
+/// is after the Radicle Heartwood protocol, in this project's own form. `GetFault` as
+/// `Objects::get` answers it.
 pub fn is_identity_root<O: Objects>(objects: &mut O, rid: &Rid, oid: &Oid) -> Result<bool, GetFault>
     ensures told { ForSome (O.content objects.old)
         (λ m. IfOk result (λ is. IsTrue is ↔ IsIdentityRoot m rid.now oid.now)) }

@@ -1,7 +1,9 @@
 // Entries of trees and identity roots, over objects in memory.
+mod failing;
 
+use self::failing::{Failing, Failure, held};
 use crate::{commit_entry, commit_tree, embedded, find_entry, is_identity_root};
-use commit_graph::MemObjects;
+use commit_graph::{GetFault, MemObjects};
 use git_object::{Kind, write_commit};
 use rad_base::{NoMemory, Oid, Rid};
 use std::alloc::Global;
@@ -106,5 +108,55 @@ fn identity_roots_have_no_parent_and_the_document(rt: HostRuntime) -> Result<(),
     assert_eq!(rt; is_identity_root(&mut objects, &rid, &later), Ok(false));
     assert_eq!(rt; is_identity_root(&mut objects, &rid, &other), Ok(false));
     assert_eq!(rt; is_identity_root(&mut objects, &rid, &top), Ok(false));
+    Ok(())
+}
+
+// What a call answers over objects that are at fault behind this many look-ups.
+fn asked(
+    objects: &mut Failing<'_>,
+    call: usize,
+    tree: &Oid,
+    root: &Oid,
+) -> Result<Option<Oid>, GetFault> {
+    match call {
+        0 => find_entry(objects, tree, Kind::Tree, b"embeds"),
+        1 => commit_entry(objects, root, Kind::Tree, b"embeds"),
+        2 => embedded(objects, root, b"radicle.json"),
+        3 => match commit_tree(objects, root) {
+            Ok(found) => Ok(found.map(|found| found.tree)),
+            Err(fault) => Err(fault),
+        },
+        _ => match is_identity_root(objects, &Rid(*root), root) {
+            Ok(_) => Ok(None),
+            Err(fault) => Err(fault),
+        },
+    }
+}
+
+// How many look-ups each of these calls takes.
+const LOOKS: [u64; 5] = [1, 2, 3, 1, 4];
+
+#[test]
+fn faults_of_look_ups_are_handed_on(rt: HostRuntime) -> Result<(), Fail> {
+    let alloc = rt.alloc();
+    let mut objects = MemObjects::new(alloc);
+    let document = Oid([9; 20]);
+    let embeds = tree(alloc, &mut objects, &[(b"100644 radicle.json\0", document)])?;
+    let top = tree(alloc, &mut objects, &[(b"40000 embeds\0", embeds)])?;
+    let root = commit(alloc, &mut objects, &top, &[])?;
+    let objects = held(alloc, &objects, &[embeds, top, root])?;
+    for failure in [Failure::Disk, Failure::Changed] {
+        for (call, looks) in LOOKS.iter().enumerate() {
+            for answered in 0..*looks {
+                let mut store = Failing::new(&objects, failure, answered);
+                let answer = asked(&mut store, call, &top, &root);
+                assert!(rt; store.answered().is_some());
+                assert_eq!(rt; answer.err(), store.answered());
+            }
+            let mut store = Failing::new(&objects, failure, *looks);
+            assert_eq!(rt; asked(&mut store, call, &top, &root).err(), None);
+            assert_eq!(rt; store.left(), 0);
+        }
+    }
     Ok(())
 }
