@@ -8,7 +8,7 @@ use Rattle.rad_base.specs.Lists.{BeginsWith}
 use Rattle.git_object.specs.Grammar.{Commit, IsCommit, SpellsCommit, oid_line, parents_text}
 use Rattle.git_object.specs.Places.{BreaksCommit, HasNoLine, StandsBehindParents}
 use Rattle.git_object.specs.Reading.{commit_in, parents_in}
-use Rattle.git_object.proofs.ReadBack.{some_is}
+use Rattle.rad_base.proofs.Options.{some_is}
 use Rattle.git_object.proofs.Lines.{author_no_parent, line_reads, one_line, parents_read}
 
 -- a commit that bytes spell is read

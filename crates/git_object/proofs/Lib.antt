@@ -4,6 +4,7 @@ pub mod Items
 pub mod Lines
 pub mod Linked
 pub mod NameFronts
+pub mod OnePlace
 pub mod ReadBack
 pub mod SpellingLaws
 pub mod Steps

@@ -17,7 +17,8 @@ use Rattle.git_object.specs.Grammar.{oid_line, parents_text}
 use Rattle.git_object.specs.Places.{HasNoLine, StandsBehindParents}
 use Rattle.git_object.specs.Reading.{behind, if_lower, line_front, oid_text_front, parents_in}
 use Rattle.git_object.proofs.Items.{Shrinks, items_first, items_none}
-use Rattle.git_object.proofs.ReadBack.{behind_is, behind_reads, bind_is, if_is, some_is}
+use Rattle.rad_base.proofs.Options.{some_is}
+use Rattle.git_object.proofs.ReadBack.{behind_is, behind_reads, bind_is, if_is}
 
 same_true : (xs : List ℕ) → pointwise nat_eq xs xs ≡ true
 same_true xs = (slice_eq-Decides Decides-eqb xs xs (pointwise nat_eq xs xs) refl).1 refl

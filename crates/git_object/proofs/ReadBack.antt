@@ -2,17 +2,16 @@
 use Rattle.std.proofs.Common.{Bool, true, false, ◌≡◌, ◌≢◌, ℕ, ◌≤◌, ◌==◌, nat_le, if◌then◌else◌, List, [], ◌∷◌, ◌++◌, length, Option, Some, None, refl, sym, ap, ◌∙◌, arith, append_assoc, length-append, ◌⊎◌, inl, inr}
 use Rattle.std.specs.Prelude.{codes}
 use Rattle.std.specs.List.{All}
-use Rattle.std.proofs.lemmas.Bool.{eq-eqb, eqb-true}
+use Rattle.std.specs.Option.{option_or}
+use Rattle.std.proofs.lemmas.Bool.{eq-eqb, eqb-true, false_from_ne_true}
 use Rattle.std.proofs.lemmas.List.{take-append-drop, length-take-le, take_at, drop_at}
 use Rattle.std.proofs.lemmas.List.Elements.{All-cons, All-head, All-nil, All-tail}
 use Rattle.git_object.specs.Grammar.{Entry, IsEntry, IsName, entry_text, mode_text}
-use Rattle.git_object.specs.Reading.{◌>>=◌, or_else, behind, first_among, mode_front, before_nul, name_front, oid_front, entry_front}
+use Rattle.git_object.specs.Reading.{◌>>=◌, behind, first_among, mode_front, before_nul, name_front, oid_front, entry_front}
 use Rattle.git_object.specs.declared.mode.Mode.{Mode}
 use Rattle.git_object.specs.declared.mode.Mode.TheVariants.{File, Executable, GroupFile, Symlink, Directory, Gitlink}
 use Rattle.rad_base.specs.declared.names.Oid.{Oid}
-
-pub some_is : {A : Type 0} (x y : A) → Some x ≡ Some y → x ≡ y
-some_is x y h = cc h
+use Rattle.rad_base.proofs.Options.{some_is}
 
 -- what was read in two steps
 pub bind_is : {A B : Type 0} (o : Option A) (f : A → Option B) (y : B) → (o >>= f) ≡ Some y → (x : A) × (o ≡ Some x) × (f x ≡ Some y)
@@ -24,7 +23,7 @@ pub if_is : {A : Type 0} (b : Bool) (o : Option A) (y : A) → (if b then o else
 if_is true o y h = (refl, h)
 if_is false o y h = cc h
 
-or_is : {A : Type 0} (o p : Option A) (y : A) → or_else o p ≡ Some y → (o ≡ Some y) ⊎ (p ≡ Some y)
+or_is : {A : Type 0} (o p : Option A) (y : A) → option_or o p ≡ Some y → (o ≡ Some y) ⊎ (p ≡ Some y)
 or_is (Some x) p y h = inl h
 or_is None p y h = inr h
 
@@ -69,19 +68,14 @@ mode_is bytes r h = among_is (λ mode. mode_text mode ++ codes " ") (File ∷ Ex
 abbrev pub IsAllowed : ℕ → Type 0
 IsAllowed byte = (byte ≢ 0) × (byte ≢ 47)
 
-not_eqb : (a b : ℕ) → (a ≡ b → ⊥) → (a == b) ≡ false
-not_eqb a b h = go (a == b) (λ e. h (eqb-true a b e))
-  where
-    go : (t : Bool) → (t ≡ true → ⊥) → t ≡ false
-    go true h = absurd (h refl)
-    go false h = refl
-
 -- a name in front of a NUL is read
 pub nul_reads : (name rest : List ℕ) → All IsAllowed name → before_nul (name ++ 0 ∷ rest) ≡ Some (name, rest)
 nul_reads [] rest allowed = refl
 nul_reads (b ∷ name) rest allowed =
     let head = All-head IsAllowed b name allowed in
-    rw (not_eqb b 0 head.0, not_eqb b 47 head.1, nul_reads name rest (All-tail IsAllowed b name allowed)) refl
+    let nul = false_from_ne_true (b == 0) (λ e. head.0 (eqb-true b 0 e)) in
+    let slash = false_from_ne_true (b == 47) (λ e. head.1 (eqb-true b 47 e)) in
+    rw (nul, slash, nul_reads name rest (All-tail IsAllowed b name allowed)) refl
 
 -- the cases of the first byte
 nul_cons : (b : ℕ) (bytes : List ℕ) (r : List ℕ × List ℕ)

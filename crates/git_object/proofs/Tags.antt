@@ -12,7 +12,7 @@ use Rattle.git_object.specs.Reading.{tag_in, type_front}
 use Rattle.git_object.specs.declared.kind.Kind.{Kind}
 use Rattle.git_object.specs.declared.kind.Kind.TheVariants.{Blob, Tree, Commit, Tag}
 use Rattle.git_object.proofs.Lines.{line_reads, one_line}
-use Rattle.git_object.proofs.ReadBack.{some_is}
+use Rattle.rad_base.proofs.Options.{some_is}
 
 -- the line of a kind is read
 pub type_reads : (kind : Kind) (rest : List ℕ) → type_front (type_line kind ++ rest) ≡ Some (kind, rest)

@@ -2,6 +2,7 @@
 use Rattle.std.proofs.Common.{Bool, true, false, ◌==◌, ◌≡◌, ℕ, ◌+◌, ◌-◌, ◌<◌, List, [], ◌∷◌, ◌++◌, length, take, drop, Option, None, Some, refl, sym, ap, subst, ◌∙◌, arith, append_assoc, length-append}
 use Rattle.std.proofs.lemmas.List.{append-nil, take-append-drop, length-drop, take_at, drop_at}
 use Rattle.std.specs.List.{AllByRecursion}
+use Rattle.rad_base.proofs.Conditions.{is_nothing}
 use Rattle.rad_base.proofs.EachItem.{each_more}
 use Rattle.git_object.specs.Grammar.{Entry, IsBelow, IsEntry, IsRisingFrom, IsTree, SpellsEntries, SpellsTree, entry_text, key_of, tree_text}
 use Rattle.git_object.specs.Places.{BreaksTree, HasNoEntryAbove}
@@ -141,21 +142,27 @@ tree_more es front g s is below = (
   },
 )
 
+-- no tree goes on behind the place where bytes leave the grammar of trees
+pub no_tree_behind : (bytes rest more : List ℕ) (place : ℕ) → BreaksTree bytes place → drop place bytes ≡ rest ++ more → 0 < length rest
+    → IsTree (take place bytes ++ rest) → ⊥
+no_tree_behind bytes rest more place b e some t =
+    let es = b.before.0 in
+    let front = b.before.1 in
+    let whole : take place bytes ++ rest ≡ tree_text es ++ rest = ap (λ (l : List ℕ). l ++ rest) front.text in
+    let next = tree_behind None es t.0 rest front.each (subst (λ (l : List ℕ). SpellsEntries None t.0 l) whole t.1) in
+    stands es front next.0 next.1
+  where
+    stands : (es : List Entry) → SpellsTree es (take place bytes) → (gs : List Entry) → SpellsEntries (last_from None es) gs rest → ⊥
+    stands es front [] s = omega (arith, some, ap length s.text)
+    stands es front (g ∷ gs) s =
+        b.broken g (tree_text gs ++ more) (e ∙ ap (λ (l : List ℕ). l ++ more) s.text ∙ append_assoc (entry_text g) (tree_text gs) more)
+        (tree_more es (take place bytes) g front s.each.0 s.rising.0)
+
 -- a tree is broken nowhere
 pub broken_no_tree : (bytes : List ℕ) (place : ℕ) → BreaksTree bytes place → IsTree bytes → ⊥
 broken_no_tree bytes place b t =
-    let es = b.before.0 in
-    let front = b.before.1 in
-    let whole : bytes ≡ tree_text es ++ drop place bytes = sym (take-append-drop place bytes) ∙ ap (λ (l : List ℕ). l ++ drop place bytes) front.text in
-    let next = tree_behind None es t.0 (drop place bytes) front.each (subst (λ (l : List ℕ). SpellsEntries None t.0 l) whole t.1) in
     let some : 0 < length (drop place bytes) = omega (arith, length-drop place bytes, b.inside) in
-    stands es front (drop place bytes) some b.broken next.0 next.1
-  where
-    stands : (es : List Entry) → SpellsTree es (take place bytes) → (rest : List ℕ) → 0 < length rest
-        → ((entry : Entry) (more : List ℕ) → rest ≡ entry_text entry ++ more → IsTree (take place bytes ++ entry_text entry) → ⊥)
-        → (gs : List Entry) → SpellsEntries (last_from None es) gs rest → ⊥
-    stands es front rest some broken [] s = omega (arith, some, ap length s.text)
-    stands es front rest some broken (g ∷ gs) s = broken g (tree_text gs) s.text (tree_more es (take place bytes) g front s.each.0 s.rising.0)
+    no_tree_behind bytes (drop place bytes) [] place b (sym (append-nil (drop place bytes))) some (subst IsTree (sym (take-append-drop place bytes)) t)
 
 -- a rest that is not empty
 pub some_rest : (empty : Bool) (rest : List ℕ) → empty ≡ (length rest == 0) → empty ≡ false → 0 < length rest
@@ -163,5 +170,4 @@ some_rest empty rest e f = grind arith
 
 -- a rest that is
 pub empty_rest : (empty : Bool) (rest : List ℕ) → empty ≡ (length rest == 0) → empty ≡ true → rest ≡ []
-empty_rest empty [] e f = refl
-empty_rest empty (x ∷ rest) e f = absurd (grind arith)
+empty_rest empty rest e f = is_nothing empty rest e f

@@ -32,6 +32,10 @@ pub record LinksAreTheValues : Type 0 where
   pub commit : (commit : Commit) (bytes : List ℕ) → SpellsCommit commit bytes → links kinds.Commit bytes ≡ commit_links commit
   pub tag : (tag : Tag) (bytes : List ℕ) → SpellsTag tag bytes → links kinds.Tag bytes ≡ tag_links tag
 
+-- bytes leave the grammar of a kind at one place at most
+abbrev pub BreakAtOnePlace : Type 0
+BreakAtOnePlace = (kind : Kind) (bytes : List ℕ) (p q : ℕ) → Breaks kind bytes p → Breaks kind bytes q → p ≡ q
+
 -- bytes that leave the grammar of a kind are not those of an object of the kind
 abbrev pub WhatBreaksIsRefused : Type 0
 WhatBreaksIsRefused = (kind : Kind) (bytes : List ℕ) (place : ℕ) → Breaks kind bytes place → IsWellFormed kind bytes → ⊥

@@ -1,5 +1,6 @@
 -- What bytes say, read from the front. What spells a value is read as that value.
 use Rattle.std.specs.Prelude.{ℕ, zero, suc, ◌==◌, if◌then◌else◌, nat_eq, nat_le, List, [], ◌∷◌, ◌++◌, length, take, drop, codes, Option, None, Some, Result, Ok, Err}
+use Rattle.std.specs.Option.{option_or}
 use Rattle.std.specs.Cmp.Lexicographic.{pointwise}
 use Rattle.hex.specs.Hex.{decode_sized, encode_lower}
 use Rattle.hex.specs.declared.error.FromHexError.{FromHexError}
@@ -16,11 +17,6 @@ abbrev pub ◌>>=◌ : {A B : Type 0} → Option A → (A → Option B) → Opti
 (Some x) >>= f = f x
 None >>= f = None
 
--- the first, or the second where it is nothing
-abbrev pub or_else : {A : Type 0} → Option A → Option A → Option A
-or_else (Some x) other = Some x
-or_else None other = other
-
 -- what stands behind a word
 abbrev pub behind : List ℕ → List ℕ → Option (List ℕ)
 behind [] bytes = Some bytes
@@ -30,7 +26,7 @@ behind (w ∷ word) (b ∷ bytes) = if b == w then behind word bytes else None
 -- the first of some values whose text stands at the front
 abbrev pub first_among : {A : Type 0} → (A → List ℕ) → List A → List ℕ → Option (A × List ℕ)
 first_among text [] bytes = None
-first_among text (x ∷ xs) bytes = or_else (behind (text x) bytes >>= λ rest. Some (x, rest)) (first_among text xs bytes)
+first_among text (x ∷ xs) bytes = option_or (behind (text x) bytes >>= λ rest. Some (x, rest)) (first_among text xs bytes)
 
 -- what was read, and more from what stands behind it
 abbrev pub then_more : {A : Type 0} → Option (A × List ℕ) → (List ℕ → List A) → List A

@@ -65,6 +65,8 @@ fn behind_parents(bytes: &[u8]) -> &[u8]
 
 /// The parts of a commit, which lie in the bytes. Bad exactly where the bytes are not a commit's: a
 /// line `tree` with a name, lines `parent` with a name each, and then `author ` and any bytes.
+///
+/// This is after Git's object format, in this project's profile: any bytes behind `author `.
 pub fn read_commit(bytes: &[u8]) -> Result<CommitParts<'_>, Bad>
     ensures commit { IfOk result (λ parts. SpellsCommit (commit_of parts) bytes.now) }
     ensures bad { IfErr result (λ bad. BreaksCommit bytes.now bad.place) }

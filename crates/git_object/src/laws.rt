@@ -1,6 +1,7 @@
 // Laws of spellings and links, each the contract of a function that does nothing.
 ghost use Rattle.git_object.specs.Laws.{CommitIsReadBack, TagIsReadBack, TreeIsReadBack};
-ghost use Rattle.git_object.specs.Laws.{IsOneToOne, LinksAreTheValues, WhatBreaksIsRefused};
+ghost use Rattle.git_object.specs.Laws.{BreakAtOnePlace, IsOneToOne, LinksAreTheValues};
+ghost use Rattle.git_object.specs.Laws.{WhatBreaksIsRefused};
 ghost use Rattle.git_object.specs.Grammar.{SpellsCommit, SpellsTag, SpellsTree};
 
 /// A tree has one spelling, and bytes spell at most one tree.
@@ -34,4 +35,9 @@ pub fn links_are_the_values()
 /// Bytes that leave the grammar of a kind somewhere are not those of an object of the kind.
 pub fn what_breaks_is_refused()
     ensures { WhatBreaksIsRefused }
+{}
+
+/// Bytes leave the grammar of a kind at one place at most, so that `Bad` tells the only one.
+pub fn one_place()
+    ensures { BreakAtOnePlace }
 {}

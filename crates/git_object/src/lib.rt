@@ -21,7 +21,7 @@ pub use commit::{CommitParts, Parents, read_commit};
 pub use entry::TreeEntry;
 pub use kind::Kind;
 pub use laws::{
-    commits_have_one_spelling, links_are_the_values, spellings_are_read_back,
+    commits_have_one_spelling, links_are_the_values, one_place, spellings_are_read_back,
     tags_have_one_spelling, trees_have_one_spelling, what_breaks_is_refused,
 };
 pub use link::{LinkTo, LinksFault, links};

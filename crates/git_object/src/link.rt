@@ -108,6 +108,9 @@ fn tag_links(alloc: Global, bytes: &[u8]) -> Result<Vec<LinkTo>, LinksFault>
 /// each entry but a gitlink; of a commit the tree and then each parent; of a tag the object that it
 /// is put on; of a blob nothing. Bad exactly where the bytes are not those of the kind, with the
 /// place as the reader tells it.
+///
+/// The kinds are after Git's object format, in this project's profile, as `read_tree`,
+/// `read_commit` and `read_tag` read them.
 pub fn links(alloc: Global, kind: Kind, bytes: &[u8]) -> Result<Vec<LinkTo>, LinksFault>
     ensures found { IfOk result (λ found. found.items ≡ links kind bytes.now) }
     ensures well_formed { IfOk result (λ _. IsWellFormed kind bytes.now) }

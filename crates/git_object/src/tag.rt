@@ -41,6 +41,8 @@ fn type_line_at(bytes: &[u8]) -> Option<(Kind, &[u8])>
 
 /// The parts of a tag, which lie in the bytes. Bad exactly where the bytes are not a tag's: a line
 /// `object` with a name, a line `type` with the word of a kind, and then `tag ` and any bytes.
+///
+/// This is after Git's object format, in this project's profile: any bytes behind `tag `.
 pub fn read_tag(bytes: &[u8]) -> Result<TagParts<'_>, Bad>
     ensures tag { IfOk result (λ parts. SpellsTag (tag_of parts) bytes.now) }
     ensures bad { IfErr result (λ bad. BreaksTag bytes.now bad.place) }

@@ -57,6 +57,8 @@ fn entry_behind<'a>(
 /// The entries of a tree, whose names lie in the bytes. Bad exactly where the bytes are not those
 /// of a tree: each entry is a mode, a space, a name, a NUL and the 20 bytes of an object's name,
 /// and the entries rise by their names, where a directory's counts as if a `/` stood behind it.
+///
+/// This is after Git's object format, in this project's profile: the six modes of `Mode` alone.
 pub fn read_tree(bytes: &[u8]) -> Result<TreeEntries<'_>, Bad>
     ensures tree { IfOk result (λ entries. SpellsTree (entries_of entries) bytes.now) }
     ensures bad { IfErr result (λ bad. BreaksTree bytes.now bad.place) }

@@ -70,8 +70,8 @@ fn push_entry(bytes: &mut Vec<u8>, entry: &TreeEntry<'_>) -> Result<(), AllocErr
     Ok(())
 }
 
-/// The bytes of the tree with these entries. BadEntry exactly where one is refused: the first whose
-/// name is refused or that is out of order.
+/// The bytes of the tree with these entries, after Git's object format as `read_tree` reads it.
+/// BadEntry exactly where one is refused: the first whose name is refused or that is out of order.
 pub fn write_tree(alloc: Global, entries: &[NamedEntry]) -> Result<Vec<u8>, TreeFault>
     ensures tree { IfOk result (λ bytes. SpellsTree (map entry_named entries.now) bytes.items) }
     ensures fault { IfErr result (IsTreeFault (map entry_named entries.now)) }
@@ -105,7 +105,7 @@ fn push_oid_line(bytes: &mut Vec<u8>, alloc: Global, word: &[u8], oid: &Oid) -> 
 }
 
 /// The bytes of the commit with this tree, these parents in order, and this rest, which begins with
-/// `author `.
+/// `author `, after Git's object format as `read_commit` reads it.
 pub fn write_commit(
     alloc: Global,
     tree: &Oid,
@@ -126,7 +126,7 @@ pub fn write_commit(
 }
 
 /// The bytes of the tag on this object, which is of this kind, with this rest, which begins with
-/// `tag `.
+/// `tag `, after Git's object format as `read_tag` reads it.
 pub fn write_tag(alloc: Global, object: &Oid, kind: Kind, rest: &[u8]) -> Result<Vec<u8>, NoMemory>
     requires { BeginsWith (codes "tag ") rest.now }
     ensures { IfOk result (λ bytes. SpellsTag

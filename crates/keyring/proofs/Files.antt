@@ -23,6 +23,10 @@ lines_push before (x ∷ lines) line good is may =
 pub read_nothing : (bytes : List ℕ) → HasRead bytes bytes 1 (contents_of [])
 read_nothing bytes = record { lines = []; good = tt; text = refl; count = refl; says = refl }
 
+-- a line feed in front of what stands behind it
+pub regroup : (a b c : List ℕ) → (a ++ (b ++ 10 ∷ [])) ++ c ≡ a ++ (b ++ 10 ∷ c)
+regroup a b c = simp append_assoc
+
 -- one more line was read
 pub read_more : (bytes rest behind : List ℕ) (number : ℕ) (old new : Contents) (line : Line) → HasRead bytes rest number old
     → BeginsWith line behind rest → Adds line old new → HasRead bytes behind (number + 1) new
@@ -34,9 +38,6 @@ read_more bytes rest behind number old new line r b adds = record {
   count = omega (arith, r.count, length-append r.lines (line ∷ []));
   says = adds.says r.lines r.says;
 }
-  where
-    regroup : (a b c : List ℕ) → (a ++ (b ++ 10 ∷ [])) ++ c ≡ a ++ (b ++ 10 ∷ c)
-    regroup a b c = simp append_assoc
 
 -- in the end all was read
 pub read_all : (bytes rest : List ℕ) (number : ℕ) (keyring : Contents) → HasRead bytes rest number keyring → rest ≡ [] → Keys bytes keyring

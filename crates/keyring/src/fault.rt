@@ -1,6 +1,5 @@
 // Why a keyring file was not read.
 use rad_base::NoMemory;
-use std::alloc::AllocFailed;
 
 /// Why a keyring file was not read.
 #[derive(Clone, Copy, Debug, PartialEq, Eq)]

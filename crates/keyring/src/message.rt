@@ -1,20 +1,11 @@
 // Messages of the node's own, in hexadecimal digits.
 ghost use Rattle.std.specs.Prelude.{◌≡◌, ◌↔◌, ℕ, List, IsTrue, IfOk, IfSome, IfNone};
-ghost use Rattle.std.specs.List.{AllPass};
 ghost use Rattle.hex.specs.Hex.{encode_lower};
-ghost use Rattle.rad_base.specs.Hexadecimal.{is_lower_hex_digit};
 ghost use Rattle.keyring.specs.Lines.{IsMessage};
 ghost use Rattle.keyring.specs.Readers.{IsSpelling};
 
-use rad_base::NoMemory;
+use rad_base::{NoMemory, is_lower_text};
 use std::alloc::Global;
-
-// Whether each byte is a lower case digit.
-fn is_lower_text(text: &[u8]) -> bool
-    ensures { IsTrue result ↔ AllPass is_lower_hex_digit text.now }
-{
-    text.iter().all(|c| matches!(*c, b'0'..=b'9' | b'a'..=b'f'))
-}
 
 // Whether a text spells a message.
 fn is_spelling(digits: &[u8]) -> bool
@@ -36,7 +27,7 @@ pub fn message_of(alloc: Global, digits: &[u8]) -> Result<Option<Vec<u8>>, NoMem
     }
     match hex::decode(alloc, digits) {
         Ok(message) => Ok(Some(message)),
-        // An even number of digits fails to be decoded for want of memory alone.
+        // An even number of lower case digits fails to be decoded for want of memory alone.
         Err(_) => Err(NoMemory),
     }
 }

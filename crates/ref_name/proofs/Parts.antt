@@ -1,8 +1,8 @@
 -- The components of a name, from the first.
-use Rattle.std.proofs.Common.{◌≡◌, ◌≢◌, ℕ, zero, suc, ◌<◌, ◌==◌, Bool, true, false, if◌then◌else◌, List, [], ◌∷◌, ◌++◌, length, ◌⊎◌, inl, inr, refl, sym, ap, subst, ◌∙◌, arith}
+use Rattle.std.proofs.Common.{◌≡◌, ◌≢◌, ℕ, zero, suc, ◌<◌, ◌==◌, Bool, if◌then◌else◌, List, [], ◌∷◌, ◌++◌, length, ◌⊎◌, inl, inr, refl, sym, ap, subst, ◌∙◌, arith}
 use Rattle.std.specs.List.{Any}
 use Rattle.std.specs.Prelude.{slice_index_or}
-use Rattle.std.proofs.lemmas.Bool.{eqb-true}
+use Rattle.std.proofs.lemmas.Bool.{eqb-true, false_from_ne_true}
 use Rattle.rad_base.specs.Sizes.{Lacks}
 use Rattle.ref_name.specs.Rules.{components, in_front}
 
@@ -30,12 +30,9 @@ any_cases {X} P x xs h = cases h.0 h.1 h.2 h.3 h.4
 
 -- ---- components
 
-not_slash : (c : ℕ) (b : Bool) → (c == 47) ≡ b → c ≢ 47 → (c == 47) ≡ false
-not_slash c true e not = absurd (not (eqb-true c 47 e))
-not_slash c false e not = e
-
 no_slash_in_front : (c : ℕ) (name : List ℕ) → c ≢ 47 → components (c ∷ name) ≡ in_front c (components name)
-no_slash_in_front c name not = ap (λ (b : Bool). if b then [] ∷ components name else in_front c (components name)) (not_slash c (c == 47) refl not)
+no_slash_in_front c name not =
+    ap (λ (b : Bool). if b then [] ∷ components name else in_front c (components name)) (false_from_ne_true (c == 47) (λ e. not (eqb-true c 47 e)))
 
 lacks_rest : (c : ℕ) (name : List ℕ) → Lacks 47 (c ∷ name) → Lacks 47 name
 lacks_rest c name h = λ k d inside. h (suc k) d (omega (arith, inside))

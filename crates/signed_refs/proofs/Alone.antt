@@ -1,13 +1,18 @@
 -- What a commit says, and why it is refused, exclude each other.
-use Rattle.std.proofs.Common.{◌≡◌, List, Option, None, Some, refl, sym, ap, subst, ◌∙◌}
+use Rattle.std.proofs.Common.{◌≡◌, List, [], ◌∷◌, refl, sym, ap, ◌∙◌}
+use Rattle.std.specs.Ordering.{ordering_reverse}
+use Rattle.std.specs.declared.cmp.Ordering.{Ordering}
+use Rattle.std.specs.declared.cmp.Ordering.TheVariants.{Less, Equal, Greater}
 use Rattle.rad_base.specs.declared.names.Nid.{Nid}
 use Rattle.rad_base.specs.declared.names.Oid.{Oid}
 use Rattle.rad_base.specs.declared.names.Rid.{Rid}
-use Rattle.git_object.specs.Links.{IsWellFormed}
-use Rattle.commit_graph.specs.Closures.{IsClosed, IsMissingName, IsUnfitName}
-use Rattle.commit_graph.specs.Objects.{Object, ObjectMap}
-use Rattle.commit_graph.specs.Pairs.{Accepts}
+use Rattle.rad_base.specs.Order.{oid_cmp}
+use Rattle.rad_base.proofs.NameOrder.{oid_exact, oid_total}
+use Rattle.commit_graph.specs.Closures.{IsClosed, IsLeast, IsMissingName, IsUnfitName}
+use Rattle.commit_graph.specs.Objects.{ObjectMap}
+use Rattle.commit_graph.specs.Pairs.{as_commit}
 use Rattle.commit_graph.specs.declared.root.Root.{Root}
+use Rattle.commit_graph.proofs.PairSteps.{missing_unfit, unfit_apart}
 use Rattle.keyring.specs.Contents.{Contents}
 use Rattle.signed_refs.specs.Lines.{Line}
 use Rattle.signed_refs.specs.Refusals.{IsFault, Refuses}
@@ -22,25 +27,15 @@ pub one_signed : (objects : ObjectMap) (keyring : Contents) (rid : Rid) (node : 
 one_signed objects keyring rid node commit a b s t =
     s.says ∙ ap (λ (f : Sigrefs). f.refs) (one_sigrefs objects commit s.found t.found s.are.has t.are.has) ∙ sym t.says
 
-nothing_there : (o : Option Object) (x : Object) → o ≡ None → o ≡ Some x → ⊥
-nothing_there o x none some = let both : None ≡ Some x = sym none ∙ some in cc both
-
 -- what is closed misses nothing
 none_missing : (objects : ObjectMap) (roots : List Root) (oid : Oid) → IsClosed objects roots → IsMissingName objects roots oid → ⊥
 none_missing objects roots oid closed h =
-    let held = closed h.pair h.reached in
-    nothing_there (objects h.pair.oid) (held.fit.kind, held.fit.bytes) h.holds held.fit.there
-
-same_object : (o : Option Object) (x y : Object) → o ≡ Some x → o ≡ Some y → x ≡ y
-same_object o x y e f = let both : Some x ≡ Some y = sym e ∙ f in cc both
+    let held = closed h.pair h.reached in missing_unfit h.holds held.fit
 
 -- and has no unfit object
 none_unfit : (objects : ObjectMap) (roots : List Root) (oid : Oid) → IsClosed objects roots → IsUnfitName objects roots oid → ⊥
 none_unfit objects roots oid closed h =
-    let held = closed h.pair h.reached in
-    let same = same_object (objects h.pair.oid) (held.fit.kind, held.fit.bytes) (h.holds.kind, h.holds.bytes) held.fit.there h.holds.there in
-    h.holds.unfit (subst (λ (x : Object). Accepts h.pair.kind x.0) same held.fit.expected)
-    (subst (λ (x : Object). IsWellFormed x.0 x.1) same held.fit.formed)
+    let held = closed h.pair h.reached in unfit_apart h.holds held.fit
 
 -- a commit that says its refs is refused by a fault alone
 pub refused_by_fault : (objects : ObjectMap) (keyring : Contents) (rid : Rid) (node : Nid) (commit : Oid) (refs : List Line) (fault : SigFault)
@@ -51,3 +46,47 @@ refused_by_fault objects keyring rid node commit refs BadSigrefs s h = absurd (h
 refused_by_fault objects keyring rid node commit refs NotAccepted s h = absurd (h.none s.found s.are)
 refused_by_fault objects keyring rid node commit refs Grafted s h = absurd (h.none refs s)
 refused_by_fault objects keyring rid node commit refs (Get why) s h = (why, refl)
+
+-- the least name is one
+one_least : (P : Oid → Type 0) (a b : Oid) → IsLeast P a → IsLeast P b → a ≡ b
+one_least P a b h k = compared (oid_cmp a b) refl
+  where
+    compared : (o : Ordering) → oid_cmp a b ≡ o → a ≡ b
+    compared Less e = absurd (k.least a h.holds e)
+    compared Equal e = oid_exact a b e
+    compared Greater e = absurd (h.least b k.holds (oid_total.antisymm b a ∙ ap ordering_reverse e))
+
+-- a commit is refused for one reason, faults apart
+pub one_refusal : (objects : ObjectMap) (keyring : Contents) (rid : Rid) (node : Nid) (commit : Oid) (a b : SigFault)
+    → Refuses objects keyring rid node commit a → Refuses objects keyring rid node commit b → (IsFault a → ⊥) → (IsFault b → ⊥) → a ≡ b
+one_refusal objects keyring rid node commit (Missing a) (Missing b) h k p q = ap (λ (o : Oid). Missing o) (one_least (IsMissingName objects (as_commit commit ∷ [])) a b h k)
+one_refusal objects keyring rid node commit (Missing a) (BadObject b) h k p q = absurd (k.0 a h.holds)
+one_refusal objects keyring rid node commit (Missing a) BadSigrefs h k p q = absurd (none_missing objects _ a k.closed h.holds)
+one_refusal objects keyring rid node commit (Missing a) NotAccepted h k p q = absurd (none_missing objects _ a k.closed h.holds)
+one_refusal objects keyring rid node commit (Missing a) Grafted h k p q = absurd (none_missing objects _ a k.closed h.holds)
+one_refusal objects keyring rid node commit (Missing a) (Get why) h k p q = absurd (q (why, refl))
+one_refusal objects keyring rid node commit (BadObject a) (Missing b) h k p q = absurd (h.0 b k.holds)
+one_refusal objects keyring rid node commit (BadObject a) (BadObject b) h k p q = ap (λ (o : Oid). BadObject o) (one_least (IsUnfitName objects (as_commit commit ∷ [])) a b h.1 k.1)
+one_refusal objects keyring rid node commit (BadObject a) BadSigrefs h k p q = absurd (none_unfit objects _ a k.closed h.1.holds)
+one_refusal objects keyring rid node commit (BadObject a) NotAccepted h k p q = absurd (none_unfit objects _ a k.closed h.1.holds)
+one_refusal objects keyring rid node commit (BadObject a) Grafted h k p q = absurd (none_unfit objects _ a k.closed h.1.holds)
+one_refusal objects keyring rid node commit (BadObject a) (Get why) h k p q = absurd (q (why, refl))
+one_refusal objects keyring rid node commit BadSigrefs (Missing b) h k p q = absurd (none_missing objects _ b h.closed k.holds)
+one_refusal objects keyring rid node commit BadSigrefs (BadObject b) h k p q = absurd (none_unfit objects _ b h.closed k.1.holds)
+one_refusal objects keyring rid node commit BadSigrefs BadSigrefs h k p q = refl
+one_refusal objects keyring rid node commit BadSigrefs NotAccepted h k p q = absurd (h.none k.found k.has)
+one_refusal objects keyring rid node commit BadSigrefs Grafted h k p q = absurd (h.none k.found k.are.has)
+one_refusal objects keyring rid node commit BadSigrefs (Get why) h k p q = absurd (q (why, refl))
+one_refusal objects keyring rid node commit NotAccepted (Missing b) h k p q = absurd (none_missing objects _ b h.closed k.holds)
+one_refusal objects keyring rid node commit NotAccepted (BadObject b) h k p q = absurd (none_unfit objects _ b h.closed k.1.holds)
+one_refusal objects keyring rid node commit NotAccepted BadSigrefs h k p q = absurd (k.none h.found h.has)
+one_refusal objects keyring rid node commit NotAccepted NotAccepted h k p q = refl
+one_refusal objects keyring rid node commit NotAccepted Grafted h k p q = absurd (h.none k.found k.are)
+one_refusal objects keyring rid node commit NotAccepted (Get why) h k p q = absurd (q (why, refl))
+one_refusal objects keyring rid node commit Grafted (Missing b) h k p q = absurd (none_missing objects _ b h.closed k.holds)
+one_refusal objects keyring rid node commit Grafted (BadObject b) h k p q = absurd (none_unfit objects _ b h.closed k.1.holds)
+one_refusal objects keyring rid node commit Grafted BadSigrefs h k p q = absurd (k.none h.found h.are.has)
+one_refusal objects keyring rid node commit Grafted NotAccepted h k p q = absurd (k.none h.found h.are)
+one_refusal objects keyring rid node commit Grafted Grafted h k p q = refl
+one_refusal objects keyring rid node commit Grafted (Get why) h k p q = absurd (q (why, refl))
+one_refusal objects keyring rid node commit (Get why) b h k p q = absurd (p (why, refl))

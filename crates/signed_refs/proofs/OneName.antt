@@ -11,6 +11,7 @@ use Rattle.rad_base.proofs.Conditions.{differ}
 use Rattle.rad_base.specs.declared.names.Oid.{Oid}
 use Rattle.rad_base.proofs.Members.{contains_cases, contains_nothing}
 use Rattle.rad_base.proofs.NameOrder.{not_below_itself}
+use Rattle.rad_base.proofs.Options.{some_is}
 use Rattle.signed_refs.specs.Lines.{Line, RiseFrom, last_from}
 
 -- every name of rising lines is above the name before them
@@ -44,20 +45,14 @@ found_name lines seen i item name e rising inside at same oid =
     let has : Contains seen item = (i, inside, at) in
     let here : Contains lines item = rw (sym e) has in
     let named : Contains lines (name, item.1) = subst (λ (n : List ℕ). Contains lines (n, item.1)) same here in (
-      λ f. subst (λ (x : Oid). Contains lines (name, x)) (some_same item.1 oid f) named,
+      λ f. subst (λ (x : Oid). Contains lines (name, x)) (some_is item.1 oid f) named,
       λ other. ap Some (one_name None lines name item.1 oid rising named other),
     )
-  where
-    some_same : (a b : Oid) → Some a ≡ Some b → a ≡ b
-    some_same a b e = cc e
-
-same_some : (a b : Line) → Some a ≡ Some b → a ≡ b
-same_some a b e = cc e
 
 last_of : (before : Option (List ℕ)) (lines : List Line) (k : ℕ) (line : Line) → length lines ≡ k + 1 → slice_get lines k ≡ Some line
     → last_from before lines ≡ Some line.0
 last_of before [] k line n e = cc e
-last_of before (x ∷ []) zero line n e = ap (λ (l : Line). Some l.0) (same_some x line e)
+last_of before (x ∷ []) zero line n e = ap (λ (l : Line). Some l.0) (some_is x line e)
 last_of before (x ∷ []) (suc k) line n e = cc e
 last_of before (x ∷ y ∷ lines) zero line n e = absurd (omega (arith, n))
 last_of before (x ∷ y ∷ lines) (suc k) line n e = last_of (Some x.0) (y ∷ lines) k line (omega (arith, n)) e

@@ -26,9 +26,6 @@ pub one_sig : (a b : Sig) → a.0 ≡ b.0 → a ≡ b
 unfolding sig_of
 one_sig a b e = ap sig_of e
 
-sigrefs_of : List ℕ → List Line → Sig → Sigrefs
-sigrefs_of text refs sig = record { text = text; refs = refs; sig = sig }
-
 same_parts : (a b : Sigrefs) → a.text ≡ b.text → a.refs ≡ b.refs → a.sig ≡ b.sig → a ≡ b
 same_parts a b e f g = (λ i. record { text = e i; refs = f i; sig = g i })
 

@@ -7,7 +7,7 @@ use Rattle.rad_base.specs.declared.names.Rid.{Rid}
 use Rattle.rad_base.specs.declared.names.Sig.{Sig}
 use Rattle.rad_base.specs.Sizes.{IsSig}
 use Rattle.git_object.specs.declared.kind.Kind.TheVariants as kinds
-use Rattle.git_object.proofs.ReadBack.{some_is}
+use Rattle.rad_base.proofs.Options.{some_is}
 use Rattle.commit_graph.specs.Objects.{ObjectMap}
 use Rattle.commit_graph.proofs.Causes.{cause_later}
 use Rattle.keyring.specs.Contents.{Contents, accepts}
@@ -169,10 +169,6 @@ sig_cause_later content later before mid now Grafted e le h = tt
 sig_cause_later content later before mid now (Get why) e le h = cause_later content later before mid now why e le h
 
 -- ---- the root
-
--- nothing is something
-pub no_some : {X : Type 0} (r : Option X) (x : X) → r ≡ None → r ≡ Some x → ⊥
-no_some r x none some = let both : None ≡ Some x = sym none ∙ some in cc both
 
 -- the root that was looked up is the only one
 pub root_kept : (objects : ObjectMap) (rid : Rid) (refs : List Line) (r : Option Oid) (root : Oid) (b : Bool)

@@ -43,7 +43,7 @@ Refuses objects keyring rid node commit NotAccepted = IsNotAccepted objects keyr
 Refuses objects keyring rid node commit Grafted = IsGrafted objects keyring rid node commit
 Refuses objects keyring rid node commit (Get why) = Unit {0}
 
--- an object could not be had
+-- an object could not be had, or memory was refused
 abbrev pub IsFault : SigFault → Type 0
 IsFault fault = (why : GetFault) × (fault ≡ Get why)
 

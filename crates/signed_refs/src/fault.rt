@@ -29,7 +29,8 @@ impl From<NoMemory> for RefsFault {
 pub enum SigFault {
     /// The least name that the commit reaches and that has no object.
     Missing(Oid),
-    /// The least name that the commit reaches whose object is of another kind or malformed.
+    /// The least name that the commit reaches whose object is of another kind or malformed, where
+    /// none is missing.
     BadObject(Oid),
     /// The tree has no blob `refs` in the grammar of signed refs, or no blob `signature` of 64
     /// bytes.

@@ -27,7 +27,8 @@ pub fn refs_are_read_back()
         → SpellsRefs lines a → SpellsRefs lines b → a ≡ b }
 {}
 
-/// A commit says one list of refs, and it is then refused by a fault alone.
+/// A commit says at most one list of refs. One that says refs is refused only where an object could
+/// not be had or memory was refused.
 pub fn one_saying()
     ensures one { (objects : ObjectMap) (keyring : Contents) (rid : Rid) (node : Nid)
         (commit : Oid) (a b : List Line) → Signed objects keyring rid node commit a
@@ -36,4 +37,12 @@ pub fn one_saying()
         (commit : Oid) (refs : List Line) (fault : SigFault)
         → Signed objects keyring rid node commit refs
         → Refuses objects keyring rid node commit fault → IsFault fault }
+{}
+
+/// A commit is refused for at most one reason, an object that could not be had or memory that was
+/// refused apart.
+pub fn one_refusal()
+    ensures { (objects : ObjectMap) (keyring : Contents) (rid : Rid) (node : Nid) (commit : Oid)
+        (a b : SigFault) → Refuses objects keyring rid node commit a
+        → Refuses objects keyring rid node commit b → (IsFault a → ⊥) → (IsFault b → ⊥) → a ≡ b }
 {}

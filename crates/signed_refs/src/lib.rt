@@ -13,7 +13,7 @@ mod tests;
 mod writing;
 
 pub use fault::{RefsFault, SigFault};
-pub use laws::{one_reading, one_saying, refs_are_read_back};
+pub use laws::{one_reading, one_refusal, one_saying, refs_are_read_back};
 pub use namespaces::namespace;
 pub use reading::read_refs;
 pub use ref_name::{RefName, check_ref_name};

@@ -164,7 +164,7 @@ fn keeps_root<O: Objects>(objects: &mut O, rid: &Rid, refs: &Refs) -> Result<boo
 /// It is refused by the first that fails, in this order: `Missing` and `BadObject` where the commit
 /// is not closed, as `closure` says; `BadSigrefs` where the blobs are not as they should be;
 /// `NotAccepted` where the keyring does not accept the signature; `Grafted` where the root is no
-/// identity root of the repository. `Get` where an object could not be had.
+/// identity root of the repository. `Get` where an object could not be had, or memory was refused.
 pub fn signed<O: Objects>(
     alloc: Global,
     objects: &mut O,

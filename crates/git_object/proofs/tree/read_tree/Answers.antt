@@ -1,8 +1,9 @@
 use Rattle.std.proofs.Common.{length, arith, refl, ap, length-append}
+use Rattle.rad_base.proofs.Conditions.{is_nothing}
 use Rattle.git_object.specs.Grammar.{entry_text}
 use Rattle.git_object.specs.Reading.{entries_in}
 use Rattle.git_object.specs.Views.{entry_of, last_key}
-use Rattle.git_object.proofs.TreeTexts.{broken_no_tree, broken_tree, empty_rest, read_all, read_more, read_none, some_rest}
+use Rattle.git_object.proofs.TreeTexts.{broken_no_tree, broken_tree, read_all, read_more, read_none, some_rest}
 use Rattle.git_object.proofs.tree.read_tree.Goals as goal
 
 pub reading-init : goal.reading-init
@@ -27,7 +28,7 @@ reading-preserved c =
 pub returns-clause-tree : goal.returns-clause-tree
 returns-clause-tree c =
     read_all c.args.bytes.now c.reading.rest.now (last_key c.reading.before) c.reading.invariant.read
-    (empty_rest c.is_empty.result c.reading.rest.now c.is_empty.ensures c.reading-test.false)
+    (is_nothing c.is_empty.result c.reading.rest.now c.is_empty.ensures c.reading-test.false)
 
 pub returns-clause-exact : goal.returns-clause-exact
 returns-clause-exact c = (λ ok. (entries_in c.args.bytes.now, returns-clause-tree c), λ tree. refl)

@@ -1,9 +1,10 @@
 use Rattle.std.proofs.Common.{refl}
-use Rattle.signed_refs.proofs.Told.{no_some, root_kept}
+use Rattle.rad_base.proofs.Options.{not_nothing}
+use Rattle.signed_refs.proofs.Told.{root_kept}
 use Rattle.signed_refs.proofs.signed_commit.keeps_root.Goals as goal
 
 pub returns-in_default-clause-told : goal.returns-in_default-clause-told
-returns-in_default-clause-told g c = λ m e. ((λ t oid has. absurd (no_some c.get.result oid c.in_default.is ((c.get.ensures oid).1 has))), λ h. refl)
+returns-in_default-clause-told g c = λ m e. ((λ t oid has. absurd (not_nothing ((c.get.ensures oid).1 has) c.in_default.is)), λ h. refl)
 
 pub returns-clause-told : goal.returns-clause-told
 returns-clause-told g c = λ m e.
