@@ -167,7 +167,3 @@ broken_no_tree bytes place b t =
 -- a rest that is not empty
 pub some_rest : (empty : Bool) (rest : List ℕ) → empty ≡ (length rest == 0) → empty ≡ false → 0 < length rest
 some_rest empty rest e f = grind arith
-
--- a rest that is
-pub empty_rest : (empty : Bool) (rest : List ℕ) → empty ≡ (length rest == 0) → empty ≡ true → rest ≡ []
-empty_rest empty rest e f = is_nothing empty rest e f

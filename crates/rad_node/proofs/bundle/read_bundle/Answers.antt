@@ -1,6 +1,7 @@
 use Rattle.std.proofs.Common.{[], ◌∷◌, ◌∙◌, sym, ap, length, arith}
 use Rattle.std.proofs.lemmas.List.{append-nil}
-use Rattle.git_object.proofs.TreeTexts.{empty_rest, some_rest}
+use Rattle.rad_base.proofs.Conditions.{is_nothing}
+use Rattle.git_object.proofs.TreeTexts.{some_rest}
 use Rattle.rad_base.proofs.OneFront.{one_behind}
 use Rattle.rad_node.specs.Bundle.{objects_text}
 use Rattle.rad_node.specs.Parts.{objects}
@@ -83,4 +84,4 @@ returns-clause-found c =
     bundle_found c.in-Some.head (objects c.in-Some-2.identity_parts.items) (objects c.in-Some-3.refs_parts.items) (objects c.in-Some-4.tips_parts.items)
     c.args.bytes.now c.in-Some.rest.now c.in-Some-2.rest.now c.in-Some-after.rest.now c.in-Some-3.rest.now c.in-Some-after-2.rest.now c.in-Some-4.rest.now
     found.0 first.0 second.0 third.0 found.1 first.1 c.in-Some-after.ensures.found second.1 c.in-Some-after-2.ensures.found third.1
-    (empty_rest c.is_empty.result c.in-Some-4.rest.now c.is_empty.ensures c.if-not-is_empty.false)
+    (is_nothing c.is_empty.result c.in-Some-4.rest.now c.is_empty.ensures c.if-not-is_empty.false)
