@@ -23,14 +23,14 @@ use Rattle.identity_doc.specs.Texts.{IsBadText, IsNoJson, IsText}
 use Rattle.identity_doc.specs.IdentityChains.{HasDocument, HasDocumentText, HasIdentity, HasSigners, HasSignaturesText, IsChange, IsFirst, IsIdentityLine}
 use Rattle.identity_doc.specs.IdentityFaults.{FailsChange, FailsFirst, FailsLine, IsGet, IsIdFault}
 use Rattle.identity_doc.proofs.OneDocument.{not_both}
-use Rattle.identity_doc.proofs.OneIdentity.{line_chain, one_chain, one_document_at, one_line, one_parents, no_parent, same_head, walk_back}
+use Rattle.identity_doc.proofs.OneIdentity.{line_chain, one_chain, one_document_at, one_line, one_parents, no_parent, walk_back}
 use Rattle.identity_doc.proofs.OneSignatures.{one_list, whole_unbroken}
 
 -- ---- lines from the tip
 
 -- the next commits of two lines are one
 next_same : (m : ObjectMap) (x y p q : Oid) → x ≡ y → HasParents m x (p ∷ []) → HasParents m y (q ∷ []) → p ≡ q
-next_same m x y p q same h k = same_head p q [] [] (one_parents m y (p ∷ []) (q ∷ []) (subst (λ (o : Oid). HasParents m o (p ∷ [])) same h) k)
+next_same m x y p q same h k = cc (one_parents m y (p ∷ []) (q ∷ []) (subst (λ (o : Oid). HasParents m o (p ∷ [])) same h) k)
 
 -- a line to a commit without parents meets no fork
 no_fork : (m : ObjectMap) (tip : Oid) (xs ys : List Oid) (root oid : Oid) (parents : List Oid) → IsLine m tip xs root → HasParents m root []
@@ -191,7 +191,7 @@ down m keyring rid (root ∷ later) tip line =
     let chain = line_chain m keyring rid (root ∷ later) tip line in
     (reverse later, (root, walk_back m root later tip chain.1, chain.0))
 
--- a tip that has an identity is refused only where an object could not be had
+-- a tip that has an identity is refused only where an object could not be had, or memory was refused
 pub not_refused : (m : ObjectMap) (keyring : Contents) (rid : Rid) (tip : Oid) (doc : Doc) (fault : IdFault) → HasIdentity m keyring rid tip doc
     → IsIdFault m keyring rid tip fault → IsGet fault
 not_refused m keyring rid tip doc (Missing oid) h k =

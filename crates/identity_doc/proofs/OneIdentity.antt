@@ -33,9 +33,6 @@ walk_back m root (x ∷ later) tip w =
 pub no_parent : (m : ObjectMap) (a b parent : Oid) → a ≡ b → HasParents m a [] → HasParents m b (parent ∷ []) → ⊥
 no_parent m a b parent same h k = cc (one_parents m b [] (parent ∷ []) (subst (λ (o : Oid). HasParents m o []) same h) k)
 
-pub same_head : (a b : Oid) (xs ys : List Oid) → a ∷ xs ≡ b ∷ ys → a ≡ b
-same_head a b xs ys e = cc e
-
 -- the lines from one tip to commits without parents are one
 pub one_line : (m : ObjectMap) (tip : Oid) (xs ys : List Oid) (a b : Oid) → IsLine m tip xs a → IsLine m tip ys b
     → HasParents m a [] → HasParents m b [] → (xs ≡ ys) × (a ≡ b)
@@ -45,7 +42,7 @@ one_line m tip (x ∷ xs) [] a b v w h k = absurd (no_parent m b x v.1.0 (sym w 
 one_line m tip (x ∷ xs) (y ∷ ys) a b v w h k =
     let here : x ≡ y = sym v.0 ∙ w.0 in
     let parents = one_parents m y (v.1.0 ∷ []) (w.1.0 ∷ []) (subst (λ (o : Oid). HasParents m o (v.1.0 ∷ [])) here v.1.1) w.1.1 in
-    let next : v.1.0 ≡ w.1.0 = same_head v.1.0 w.1.0 [] [] parents in
+    let next : v.1.0 ≡ w.1.0 = cc parents in
     let rest = one_line m w.1.0 xs ys a b (subst (λ (o : Oid). IsLine m o xs a) next v.1.2) w.1.2 h k in
     let tail = rest.0 in
     (cc, rest.1)

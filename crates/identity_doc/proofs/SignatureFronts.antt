@@ -4,7 +4,7 @@ use Rattle.hex.specs.Hex.{encode_lower}
 use Rattle.rad_base.specs.declared.names.Nid.{Nid}
 use Rattle.rad_base.specs.declared.names.Sig.{Sig}
 use Rattle.rad_base.specs.Sizes.{IsNid, IsSig}
-use Rattle.rad_base.proofs.OneFront.{one_nid_text, one_sig_text}
+use Rattle.rad_base.proofs.OneFront.{one_behind, one_nid_text, one_sig_text}
 use Rattle.identity_doc.specs.declared.signatures.SignatureLine.{SignatureLine}
 use Rattle.identity_doc.specs.Signatures.{BeginsWith, line_text}
 
@@ -12,9 +12,6 @@ use Rattle.identity_doc.specs.Signatures.{BeginsWith, line_text}
 line_parts : (line : SignatureLine) (rest : List ℕ)
     → line_text line ++ 10 ∷ rest ≡ encode_lower line.key.0 ++ 32 ∷ (encode_lower line.sig.0 ++ 10 ∷ rest)
 line_parts line rest = simp append_assoc
-
-behind_byte : (byte : ℕ) (a b : List ℕ) → byte ∷ a ≡ byte ∷ b → a ≡ b
-behind_byte byte a b e = cc e
 
 -- a key was read, and what stands behind it
 pub record ReadKey (bytes behind : List ℕ) : Type 0 where
@@ -33,7 +30,7 @@ no_space bytes behind r none line rest b = none _ (key_behind bytes behind r lin
 
 sig_behind : (bytes behind more : List ℕ) (r : ReadKey bytes behind) → behind ≡ 32 ∷ more → (line : SignatureLine) (rest : List ℕ)
     → BeginsWith line rest bytes → more ≡ encode_lower line.sig.0 ++ 10 ∷ rest
-sig_behind bytes behind more r e line rest b = behind_byte 32 _ _ (sym e ∙ (key_behind bytes behind r line rest b).1)
+sig_behind bytes behind more r e line rest b = one_behind 32 _ _ (sym e ∙ (key_behind bytes behind r line rest b).1)
 
 -- nor where no signature follows the space
 pub no_sig : (bytes behind more : List ℕ) → ReadKey bytes behind → behind ≡ 32 ∷ more
@@ -58,8 +55,8 @@ one_line line other rest more bytes b d =
     let read : ReadKey bytes (32 ∷ (encode_lower line.sig.0 ++ 10 ∷ rest)) =
     record { key = line.key; is_key = b.good.key; split = b.text ∙ line_parts line rest } in
     let keys = key_behind bytes _ read other more d in
-    let sigs = one_sig_text line.sig other.sig _ _ b.good.sig d.good.sig (behind_byte 32 _ _ keys.1) in
-    (same_line line other keys.0 sigs.0, behind_byte 10 rest more sigs.1)
+    let sigs = one_sig_text line.sig other.sig _ _ b.good.sig d.good.sig (one_behind 32 _ _ keys.1) in
+    (same_line line other keys.0 sigs.0, one_behind 10 rest more sigs.1)
 
 -- nothing begins with a line
 pub not_nothing : (line : SignatureLine) (rest : List ℕ) → BeginsWith line rest [] → ⊥

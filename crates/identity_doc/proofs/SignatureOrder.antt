@@ -60,14 +60,6 @@ less_apart a b e = ap is_eq e
 greater_apart : (a b : Nid) → nid_cmp a b ≡ Less → eq_by_cmp nid_cmp b a ≡ false
 greater_apart a b e = ap is_eq (nid_total.antisymm b a ∙ ap ordering_reverse e)
 
-equal_is : (a : Nid) → nid_cmp a a ≡ Equal
-equal_is a = itself (nid_cmp a a) (nid_total.antisymm a a)
-  where
-    itself : (o : Ordering) → o ≡ ordering_reverse o → o ≡ Equal
-    itself Less e = cc e
-    itself Equal e = refl
-    itself Greater e = cc e
-
 -- ---- the order of all lines
 
 -- the lines behind the first are above it

@@ -2,6 +2,7 @@
 use Rattle.std.proofs.Common.{◌≡◌, ℕ, ◌+◌, List, [], ◌∷◌, ◌++◌, length, refl, sym, ap, ◌∙◌, arith, append_assoc}
 use Rattle.std.proofs.lemmas.List.{append-nil}
 use Rattle.std.proofs.lemmas.List.Elements.{All-push}
+use Rattle.keyring.proofs.Files.{regroup}
 use Rattle.identity_doc.specs.declared.signatures.SignatureLine.{SignatureLine}
 use Rattle.identity_doc.specs.Signatures.{AreSignatures, BeginsWith, BreaksAt, IsSignatureLine, line_text, lines_text}
 use Rattle.identity_doc.specs.SignatureReaders.{HasRead, MayFollow}
@@ -28,9 +29,6 @@ read_more bytes rest behind lines line r b may = record {
   text = r.text ∙ ap (λ (l : List ℕ). lines_text lines ++ l) b.text
       ∙ sym (ap (λ (l : List ℕ). l ++ behind) (lines_text-append lines (line ∷ [])) ∙ regroup (lines_text lines) (line_text line) behind);
 }
-  where
-    regroup : (a b c : List ℕ) → (a ++ (b ++ 10 ∷ [])) ++ c ≡ a ++ (b ++ 10 ∷ c)
-    regroup a b c = simp append_assoc
 
 -- in the end all was read
 pub read_all : (bytes rest : List ℕ) (lines : List SignatureLine) → HasRead bytes rest lines → rest ≡ [] → AreSignatures bytes lines

@@ -82,7 +82,7 @@ abbrev pub IsIdentityLine : ObjectMap → Contents → Rid → List Oid → Oid 
 IsIdentityLine objects keyring rid [] tip = ⊥
 IsIdentityLine objects keyring rid (root ∷ later) tip = IsFirst objects keyring rid root × Walk (IsChange objects keyring) root later tip
 
--- and the tip has this document
+-- an identity line whose tip has this document
 abbrev pub EndsLine : ObjectMap → Contents → Rid → List Oid → Oid → Doc → Type 0
 EndsLine objects keyring rid commits tip doc = IsIdentityLine objects keyring rid commits tip × HasDocument objects keyring tip doc
 

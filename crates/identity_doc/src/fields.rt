@@ -57,7 +57,7 @@ pub(crate) fn threshold_number(value: &Value) -> Result<&Number, DocFault>
     }
 }
 
-/// The threshold, which this many delegates reach.
+/// The threshold, where it is an integer from 1 to this count.
 pub(crate) fn threshold_within(count: usize, number: &Number) -> Result<u8, DocFault>
     requires { count ≤ 255 }
     ensures { result ≡ threshold_within count (number_view number.now) }

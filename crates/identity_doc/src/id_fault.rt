@@ -29,6 +29,7 @@ pub enum IdFault {
     BadSignatures(Oid, usize),
     /// Too few of the parent's delegates signed the change.
     TooFew {
+        /// The commit that changes the document.
         commit: Oid,
         /// How many did.
         have: usize,

@@ -77,15 +77,15 @@ fn last_document<O: Objects>(
 /// directory `embeds`, in which `radicle.json` is the document, as JSON. The first commit has no
 /// parent, and its document blob has the repository's name. Each later one has the one before as
 /// its only parent, and a blob `signatures` in `embeds`, in which more than half of the delegates
-/// before it signed the change.
+/// before it signed the change: lines `<key> <signature>`, each with a line feed, in lower case
+/// hexadecimal digits, the keys strictly rising. Each signature is over
+/// `rad-id 1 <parent> <document blob>` and a line feed, the names in such digits.
 ///
 /// The refusal is the first that fails: `Missing` or `BadObject`, where the tip is not closed as a
 /// commit; `TwoParents` or `NoRoot`, where no line of commits leads to it; and then, at the first
 /// commit from the root that breaks a rule, `NoDocument`, `WrongRoot`, `NotJson`, `BadDocument`,
 /// `BadSignatures` or `TooFew`. `Get` comes where an object could not be had, or memory was
 /// refused.
-///
-/// It takes one closure and one walk, in O(n log n) for n objects, and reads each document once.
 pub fn id_chain<O: Objects>(
     alloc: Global,
     objects: &mut O,

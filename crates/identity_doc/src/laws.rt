@@ -35,8 +35,9 @@ pub fn reachable_threshold()
         → (1 ≤ doc.threshold) × (doc.threshold ≤ length doc.delegates) }
 {}
 
-/// The keys of delegates are those of all elements and all differ. Where there are none, either an
-/// element has no key, or its key stands before it, and the keys before this element all differ.
+/// The keys are read exactly where each element has one and all differ. Else element i is refused
+/// exactly where those before it have keys that all differ and it has none (`BadDelegate`), or has
+/// one of theirs (`Twice`).
 pub fn delegate_keys()
     ensures read { (found : List (Option Nid)) (keys : List Nid)
         → (keys_behind [] found ≡ Ok keys) ↔ (found ≡ map Some keys) × AllDiffer keys }
@@ -56,7 +57,8 @@ pub fn one_identity()
         → HasIdentity objects keyring rid tip b → a ≡ b }
 {}
 
-/// A tip that has an identity is refused only where an object could not be had.
+/// A tip that has an identity is refused only where an object could not be had, or memory was
+/// refused.
 pub fn an_identity_is_not_refused()
     ensures { (objects : ObjectMap) (keyring : Contents) (rid : Rid) (tip : Oid)
         (doc : Doc) (fault : IdFault) → HasIdentity objects keyring rid tip doc

@@ -11,7 +11,7 @@ use std::test::Fail;
 const NO_NAME: Oid = Oid([0; 20]);
 
 // A root whose document has one delegate, and the tree of a change that the delegate signed.
-const ONE: [(Kind, &[u8]); 8] = [
+pub(crate) const ONE: [(Kind, &[u8]); 8] = [
     (
         Kind::Blob,
         br#"{"delegates":[^&a"],@,"description":"","name":"world"}},"threshold":1}"#,
@@ -29,12 +29,12 @@ const ONE: [(Kind, &[u8]); 8] = [
 ];
 
 // A commit of that tree behind the last of some names.
-const CHANGE: [(Kind, &[u8]); 1] = [(Kind::Commit, b"tree #H\nparent #I\n~")];
+pub(crate) const CHANGE: [(Kind, &[u8]); 1] = [(Kind::Commit, b"tree #H\nparent #I\n~")];
 
 // The SHA-256 of the message of the change behind the root.
-const FIRST: &[u8] = b"47bc68c96e46ca8570f0e37d602f810ece42492b7be808166c0c47ea519ec629";
+pub(crate) const FIRST: &[u8] = b"47bc68c96e46ca8570f0e37d602f810ece42492b7be808166c0c47ea519ec629";
 
-fn at(names: &[Oid], number: usize) -> Oid {
+pub(crate) fn at(names: &[Oid], number: usize) -> Oid {
     names.get(number).copied().unwrap_or(NO_NAME)
 }
 
