@@ -1,5 +1,6 @@
 // Signed refs, read and written, and names in a namespace.
 mod commits;
+mod failing;
 mod objects;
 
 use super::*;

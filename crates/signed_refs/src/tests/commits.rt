@@ -1,9 +1,10 @@
 // Commits of signed refs, those of an independent program and others.
+use super::failing::{Failing, Failure, Held};
 use super::objects::{CASES, KEYRING, OBJECTS, Said};
 use super::{blob_of, push_times};
 use crate::{SigFault, signed};
 use commit_graph::{MemObjects, Objects};
-use git_object::{Kind, write_commit};
+use git_object::{Kind, name_of, write_commit};
 use keyring::Keyring;
 use rad_base::{Nid, NoMemory, Oid, Rid, parse_oid, until};
 use std::alloc::{AllocError, Global};
@@ -149,6 +150,69 @@ fn the_first_that_fails_is_told(rt: HostRuntime) -> Result<(), Fail> {
         let node = Nid([0x21; 32]);
         let answer = count(alloc, &mut objects, &keyring, &Rid(NO_NAME), &node, &commit);
         assert_eq!(rt; answer, want);
+    }
+    Ok(())
+}
+
+// More look-ups than a case takes.
+const MOST: u64 = 1_000;
+
+// How many refs the commit of a case says.
+fn count_failing(
+    alloc: Global,
+    objects: &mut Failing<'_>,
+    keyring: &Keyring,
+    case: (&[u8], u8, &[u8]),
+) -> Result<usize, SigFault> {
+    let (rid, byte, commit) = case;
+    let node = Nid([byte; 32]);
+    count(
+        alloc,
+        objects,
+        keyring,
+        &Rid(name(rid)),
+        &node,
+        &name(commit),
+    )
+}
+
+// Whether the fault of a look-up is what is answered.
+fn is_handed_on(
+    alloc: Global,
+    store: &mut Failing<'_>,
+    keyring: &Keyring,
+    case: (&[u8], u8, &[u8]),
+) -> bool {
+    match (count_failing(alloc, store, keyring, case), store.answered()) {
+        (Err(SigFault::Get(fault)), Some(answered)) => fault == answered,
+        _ => false,
+    }
+}
+
+#[test]
+fn faults_of_look_ups_are_handed_on(rt: HostRuntime) -> Result<(), Fail> {
+    let alloc = rt.alloc();
+    let mut objects = Held::new(alloc);
+    for (kind, pieces) in OBJECTS {
+        let bytes = content(alloc, kind, pieces)?;
+        objects.insert(name_of(kind, &bytes), (kind, bytes))?;
+    }
+    let keyring = Keyring::read(alloc, &keyring_of(alloc, &KEYRING)?)?;
+    for (rid, byte, commit, said) in CASES {
+        let case = (rid, byte, commit);
+        let mut store = Failing::new(&objects, Failure::Disk, MOST);
+        assert_eq!(rt;
+            count_failing(alloc, &mut store, &keyring, case),
+            fault(said)
+        );
+        let looks = MOST.saturating_sub(store.left());
+        assert!(rt; looks > 0);
+        for answered in 0..looks {
+            let mut store = Failing::new(&objects, Failure::Disk, answered);
+            assert!(rt; is_handed_on(alloc, &mut store, &keyring, case));
+            let mut store = Failing::new(&objects, Failure::Changed, answered);
+            assert!(rt; is_handed_on(alloc, &mut store, &keyring, case));
+        }
     }
     Ok(())
 }
