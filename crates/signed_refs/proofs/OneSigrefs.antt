@@ -8,7 +8,7 @@ use Rattle.git_object.specs.declared.kind.Kind.TheVariants as kinds
 use Rattle.commit_graph.specs.Objects.{ObjectMap}
 use Rattle.keyring.specs.Contents.{Contents}
 use Rattle.tree_entry.proofs.OneEntry.{one_commit_entry, one_content}
-use Rattle.signed_refs.specs.Lines.{Line, SpellsRefs}
+use Rattle.signed_refs.specs.Lines.{SpellsRefs}
 use Rattle.signed_refs.specs.Signed.{HasAccepted, HasBlob, HasSigrefs, IsAccepted, Sigrefs}
 use Rattle.signed_refs.proofs.Compared.{one_list}
 

@@ -1,12 +1,12 @@
 // Commits, and the entries of their trees.
-ghost use Rattle.std.specs.Prelude.{◌≡◌, ◌≤◌, IfOk};
+ghost use Rattle.std.specs.Prelude.{◌≡◌, ◌≤◌, IfErr, IfOk};
 ghost use Rattle.std.specs.Option.{ForSome};
 ghost use Rattle.commit_graph.specs.Faults.{HasCause};
 ghost use Rattle.tree_entry.specs.Entries.{Finds, HasCommitEntry};
 ghost use Rattle.tree_entry.specs.Commits.{Shows, Reads};
 
 use crate::find_entry;
-use commit_graph::{GetFault, Objects};
+use commit_graph::{Changed, GetFault, Objects};
 use git_object::{Kind, read_commit};
 use rad_base::Oid;
 
@@ -36,6 +36,8 @@ fn tree_in(bytes: &[u8]) -> Option<CommitTree>
 /// grammar. `GetFault` as `Objects::get` answers it.
 pub fn commit_tree<O: Objects>(objects: &mut O, oid: &Oid) -> Result<Option<CommitTree>, GetFault>
     ensures told { ForSome (O.content objects.old) (λ m. IfOk result (Shows m oid.now)) }
+    ensures asked { IfErr result (λ fault. (change : Changed) → fault ≡ GetFault.Changed change
+        → change.name ≡ oid.now) }
     ensures kept { O.content objects.new ≡ O.content objects.old }
     ensures beside { O.beside objects.new ≡ O.beside objects.old }
     ensures cause { HasCause (O.content objects.old) (O.faults objects.old) (O.faults objects.new)
