@@ -89,6 +89,8 @@ impl Objects for Failing<'_> {
 
     ghost faults = { λ store. store.faults };
 
+    ghost looks = { λ _. 0 };
+
     ghost Beside = { Unit {0} };
 
     ghost beside = { λ _. tt };
