@@ -1,8 +1,7 @@
 -- Texts of trees, an entry at a time.
-use Rattle.std.proofs.Common.{Bool, true, false, ◌==◌, ◌≡◌, ℕ, ◌+◌, ◌-◌, ◌<◌, List, [], ◌∷◌, ◌++◌, length, take, drop, Option, None, Some, refl, sym, ap, subst, ◌∙◌, arith, append_assoc, length-append}
+use Rattle.std.proofs.Common.{Bool, false, ◌==◌, ◌≡◌, ℕ, ◌+◌, ◌-◌, ◌<◌, List, [], ◌∷◌, ◌++◌, length, take, drop, Option, None, Some, refl, sym, ap, subst, ◌∙◌, arith, append_assoc, length-append}
 use Rattle.std.proofs.lemmas.List.{append-nil, take-append-drop, length-drop, take_at, drop_at}
 use Rattle.std.specs.List.{AllByRecursion}
-use Rattle.rad_base.proofs.Conditions.{is_nothing}
 use Rattle.rad_base.proofs.EachItem.{each_more}
 use Rattle.git_object.specs.Grammar.{Entry, IsBelow, IsEntry, IsRisingFrom, IsTree, SpellsEntries, SpellsTree, entry_text, key_of, tree_text}
 use Rattle.git_object.specs.Places.{BreaksTree, HasNoEntryAbove}
