@@ -2,6 +2,7 @@ pub mod Beyond
 pub mod Chains
 pub mod Closures
 pub mod Facts
+pub mod FailingObjects
 pub mod Faults
 pub mod Histories
 pub mod InMemory

@@ -13,7 +13,7 @@ use std::collections::BTreeMap;
 /// Objects in memory, each under its name.
 #[derive(Drop)]
 pub struct MemObjects {
-    held: BTreeMap<Oid, Held>,
+    pub(crate) held: BTreeMap<Oid, Held>,
     ghost named: { IsNamed (content_of held) },
 }
 

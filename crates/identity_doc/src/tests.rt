@@ -1,7 +1,6 @@
 // Documents with what an independent reader says of them, and who sees a repository.
 mod chains;
 mod circle;
-mod failing;
 mod faults;
 mod long_chain;
 mod told;

@@ -1,6 +1,5 @@
 // Signed refs, read and written, and names in a namespace.
 mod commits;
-mod failing;
 mod objects;
 
 use super::*;

@@ -1,9 +1,6 @@
 // Entries of trees and identity roots, over objects in memory.
-mod failing;
-
-use self::failing::{Failing, Failure, held};
 use crate::{commit_entry, commit_tree, embedded, find_entry, is_identity_root};
-use commit_graph::{GetFault, MemObjects};
+use commit_graph::{FailingObjects, Failure, GetFault, MemObjects};
 use git_object::{Kind, write_commit};
 use rad_base::{NoMemory, Oid, Rid};
 use std::alloc::Global;
@@ -113,7 +110,7 @@ fn identity_roots_have_no_parent_and_the_document(rt: HostRuntime) -> Result<(),
 
 // What a call answers over objects that are at fault behind this many look-ups.
 fn asked(
-    objects: &mut Failing<'_>,
+    objects: &mut FailingObjects<'_>,
     call: usize,
     tree: &Oid,
     root: &Oid,
@@ -144,18 +141,17 @@ fn faults_of_look_ups_are_handed_on(rt: HostRuntime) -> Result<(), Fail> {
     let embeds = tree(alloc, &mut objects, &[(b"100644 radicle.json\0", document)])?;
     let top = tree(alloc, &mut objects, &[(b"40000 embeds\0", embeds)])?;
     let root = commit(alloc, &mut objects, &top, &[])?;
-    let objects = held(alloc, &objects, &[embeds, top, root])?;
-    for failure in [Failure::Disk, Failure::Changed] {
+    for failure in [Failure::Disk, Failure::Change] {
         for (call, looks) in LOOKS.iter().enumerate() {
             for answered in 0..*looks {
-                let mut store = Failing::new(&objects, failure, answered);
+                let mut store = FailingObjects::new(&objects, failure, answered);
                 let answer = asked(&mut store, call, &top, &root);
-                assert!(rt; store.answered().is_some());
-                assert_eq!(rt; answer.err(), store.answered());
+                assert!(rt; store.fault().is_some());
+                assert_eq!(rt; answer.err(), store.fault());
             }
-            let mut store = Failing::new(&objects, failure, *looks);
+            let mut store = FailingObjects::new(&objects, failure, *looks);
             assert_eq!(rt; asked(&mut store, call, &top, &root).err(), None);
-            assert_eq!(rt; store.left(), 0);
+            assert_eq!(rt; store.looks(), *looks);
         }
     }
     Ok(())

@@ -1,11 +1,10 @@
 // As many tips as there can be: over a long history, and all of them one.
 use crate::answer::Head;
 use crate::head;
-use commit_graph::{GetFault, MemObjects, Objects};
-use git_object::{Kind, name_of};
+use commit_graph::{FailingObjects, Failure, MemObjects};
+use git_object::Kind;
 use rad_base::{NoMemory, Oid};
 use std::alloc::Global;
-use std::collections::BTreeMap;
 use std::test::Fail;
 
 const EMPTY_TREE: &[u8] = b"tree 4b825dc642cb6eb9a060e54bf8d69288fbee4904\n";
@@ -45,58 +44,14 @@ fn as_many_tips_as_there_can_be(rt: HostRuntime) -> Result<(), Fail> {
     Ok(())
 }
 
-/// Objects that count the look-ups.
-#[derive(Drop)]
-struct Counted {
-    objects: BTreeMap<Oid, (Kind, Vec<u8>)>,
-    looks: usize,
-}
-
-impl Objects for Counted {
-    ghost use Rattle.std.specs.Prelude.{None};
-    ghost use Rattle.std.proofs.Common.{rules};
-
-    ghost content = { λ _. None };
-
-    ghost faults = { λ _. 0 };
-
-    ghost looks = { λ counted. counted.looks };
-
-    ghost Beside = { Unit {0} };
-
-    ghost beside = { λ _. tt };
-
-    fn get(&mut self, oid: &Oid) -> Result<Option<(Kind, &[u8])>, GetFault> {
-        self.looks = self.looks.saturating_add(1);
-        match self.objects.get(oid) {
-            Some((kind, bytes)) => Ok(Some((*kind, bytes.as_slice()))),
-            None => Ok(None),
-        }
-    }
-
-    ghost named = { Prim.search rules };
-}
-
-// A chain of commits, and the last of them.
-fn counted_chain(alloc: Global, length: usize) -> Result<(Counted, Option<Oid>), NoMemory> {
-    let mut objects = BTreeMap::new(alloc);
-    let mut tip = None;
-    for _ in 0..length {
-        let bytes = commit(alloc, tip)?;
-        let oid = name_of(Kind::Commit, &bytes);
-        objects.insert(oid, (Kind::Commit, bytes))?;
-        tip = Some(oid);
-    }
-    Ok((Counted { objects, looks: 0 }, tip))
-}
-
 // One walk looks up each commit once.
 #[test]
 fn equal_tips_take_one_walk(rt: HostRuntime) -> Result<(), Fail> {
-    let (mut objects, tip) = counted_chain(rt.alloc(), 20)?;
-    let tip = tip.unwrap_or(Oid([0; 20]));
-    let found = head(rt.alloc(), &mut objects, &[tip; 255], 255)?;
+    let (objects, tips) = chain_of(rt.alloc(), 20)?;
+    let tip = tips.last().copied().unwrap_or(Oid([0; 20]));
+    let mut counting = FailingObjects::new(&objects, Failure::Disk, u64::MAX);
+    let found = head(rt.alloc(), &mut counting, &[tip; 255], 255)?;
     assert_eq!(rt; found, Head::At(tip));
-    assert_eq!(rt; objects.looks, 20);
+    assert_eq!(rt; counting.looks(), 20);
     Ok(())
 }

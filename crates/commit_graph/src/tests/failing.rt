@@ -1,84 +1,18 @@
 // A look-up that fails, at each place of each walk: its fault is the answer.
-ghost use Rattle.std.specs.Prelude.{◌≡◌, ◌<◌, ◌≤◌, None};
-ghost use Rattle.commit_graph.specs.Faults.{IsAskedFor, IsCause};
+ghost use Rattle.std.specs.Prelude.{◌≡◌, ◌<◌};
 
-use super::counted::chain_of;
+use super::long_chain::chain_of;
 use crate::{
-    ChainFault, Changed, GetFault, Objects, Root, chain, closure, closure_beyond, in_history,
-    reached,
+    ChainFault, FailingObjects, Failure, GetFault, Root, chain, closure, closure_beyond,
+    in_history, reached,
 };
-use git_object::{Kind, name_of};
+use git_object::Kind;
 use rad_base::{Oid, Steps};
 use std::alloc::Global;
-use std::collections::{BTreeMap, BTreeSet};
+use std::collections::BTreeSet;
 use std::marker::Brand;
 use std::sync::ledger::{Blank, Ledger};
 use std::test::Fail;
-
-#[derive(Clone, Copy)]
-enum Failure {
-    Disk,
-    Change,
-}
-
-// The fault of a look-up of a name. The empty blob is not among the names here.
-fn fault_of(failure: Failure, oid: &Oid, faults: &mut u64) -> GetFault
-    ensures later { faults.old ≤ faults.new }
-    ensures cause { IsCause None faults.old faults.new result }
-    ensures asked { IsAskedFor oid.now result }
-{
-    let found = name_of(Kind::Blob, b"");
-    match failure {
-        Failure::Change if found != *oid => GetFault::Changed(Changed {
-            place: 0,
-            name: *oid,
-            found,
-        }),
-        _ => {
-            *faults = faults.saturating_add(1);
-            GetFault::DiskFault
-        }
-    }
-}
-
-/// Objects of which one look-up fails, with the fault that it had.
-#[derive(Drop)]
-struct Failing<'a> {
-    objects: &'a BTreeMap<Oid, (Kind, Vec<u8>)>,
-    failure: Failure,
-    left: usize,
-    told: Option<GetFault>,
-    faults: u64,
-}
-
-impl Objects for Failing<'_> {
-    ghost use Rattle.std.proofs.Common.{rules};
-
-    ghost content = { λ _. None };
-
-    ghost faults = { λ failing. failing.faults };
-
-    ghost looks = { λ _. 0 };
-
-    ghost Beside = { Unit {0} };
-
-    ghost beside = { λ _. tt };
-
-    fn get(&mut self, oid: &Oid) -> Result<Option<(Kind, &[u8])>, GetFault> {
-        if self.left == 0 && self.told.is_none() {
-            let fault = fault_of(self.failure, oid, &mut self.faults);
-            self.told = Some(fault);
-            return Err(fault);
-        }
-        self.left = self.left.saturating_sub(1);
-        match self.objects.get(oid) {
-            Some((kind, bytes)) => Ok(Some((*kind, bytes.as_slice()))),
-            None => Ok(None),
-        }
-    }
-
-    ghost named = { Prim.search rules };
-}
 
 #[derive(Clone, Copy)]
 enum Walk {
@@ -101,7 +35,7 @@ const WALKS: [(Walk, usize); 5] = [
 // The fault that a walk answers.
 fn answered<L: Ledger>(
     alloc: Global,
-    objects: &mut Failing,
+    objects: &mut FailingObjects<'_>,
     walk: Walk,
     (root, tip): (Oid, Oid),
     steps: &mut Steps<L>,
@@ -142,15 +76,9 @@ fn failures<L: Ledger>(
     let (objects, root, tip) = chain_of(alloc, 5)?;
     let mut count = 0usize;
     for left in 0..20 {
-        let mut failing = Failing {
-            objects: &objects.objects,
-            failure,
-            left,
-            told: None,
-            faults: 0,
-        };
+        let mut failing = FailingObjects::new(&objects, failure, left);
         let fault = answered(alloc, &mut failing, walk, (root, tip), steps);
-        if fault == failing.told && is_of(failure, fault) {
+        if fault == failing.fault() && is_of(failure, fault) {
             count = count.saturating_add(1);
         }
     }

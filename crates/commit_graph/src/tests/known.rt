@@ -2,13 +2,12 @@
 // that grows.
 ghost use Rattle.std.specs.Prelude.{◌≡◌, ◌<◌};
 
-use super::counted::Counted;
 use super::graphs::GRAPHS;
 use super::graphs_of_git::{Graph, built, name};
 use super::long_chain::commit;
 use super::more_graphs::MORE_GRAPHS;
 use crate::answer::Closure;
-use crate::{MemObjects, Objects, Root, closure, closure_beyond, reached};
+use crate::{FailingObjects, Failure, MemObjects, Root, closure, closure_beyond, reached};
 use git_object::Kind;
 use rad_base::{Oid, Oids, Steps};
 use std::alloc::Global;
@@ -17,18 +16,16 @@ use std::marker::Brand;
 use std::sync::ledger::{Blank, Ledger};
 use std::test::Fail;
 
-fn copied(alloc: Global, store: &MemObjects, names: &[Oid]) -> Result<Counted, Fail> {
-    let mut objects = store;
-    let mut copy = Counted::new(alloc);
-    for oid in names {
-        if let Some((kind, bytes)) = objects.get(oid)? {
-            copy.put(alloc, kind, bytes)?;
-        }
-    }
-    Ok(copy)
+// These objects with no content told, so that any names may go as known.
+fn untold(objects: &MemObjects) -> FailingObjects<'_> {
+    FailingObjects::new(objects, Failure::Disk, u64::MAX)
 }
 
-fn closed_names(alloc: Global, objects: &mut Counted, names: &[Oid]) -> Result<Vec<Oid>, Fail> {
+fn closed_names(
+    alloc: Global,
+    objects: &mut FailingObjects<'_>,
+    names: &[Oid],
+) -> Result<Vec<Oid>, Fail> {
     let mut closed = Vec::new(alloc);
     for oid in names {
         let root = Root {
@@ -79,7 +76,7 @@ fn disagreements<L: Ledger>(
     steps: &mut Steps<L>,
 ) -> Result<usize, Fail> {
     let (store, names) = built(alloc, graph)?;
-    let mut objects = copied(alloc, &store, &names)?;
+    let mut objects = untold(&store);
     let mut roots = Vec::new(alloc);
     for (number, kind) in graph.roots {
         let oid = name(&names, *number);
@@ -124,13 +121,13 @@ fn known_names_change_no_answer(rt: HostRuntime) -> Result<(), Fail> {
 }
 
 // The look-ups for a history of 20,000 commits, and then for ten more.
-fn looks<L: Ledger>(alloc: Global, blank: Blank) -> Result<(usize, usize), Fail>
+fn looks<L: Ledger>(alloc: Global, blank: Blank) -> Result<(u64, u64), Fail>
     requires name { blank.name ≡ L.name }
     requires parts { blank.parts ≡ L.parts }
     requires some { 0 < blank.parts }
 {
     let mut steps = Steps::<L>::new(blank);
-    let mut objects = Counted::new(alloc);
+    let mut objects = MemObjects::new(alloc);
     let mut known = BTreeSet::new(alloc);
     objects.put(alloc, Kind::Tree, b"")?;
     let mut tip = None;
@@ -139,15 +136,13 @@ fn looks<L: Ledger>(alloc: Global, blank: Blank) -> Result<(usize, usize), Fail>
         for _ in 0..length {
             tip = Some(objects.put(alloc, Kind::Commit, &commit(alloc, tip)?)?);
         }
-        objects.looks = 0;
         let root = Root {
             oid: tip.unwrap_or(Oid([0; 20])),
             kind: Some(Kind::Commit),
         };
-        if closure_beyond(alloc, &mut objects, &mut known, &[root], &mut steps)?
-            == Closure::Closed
-        {
-            counts = (counts.1, objects.looks);
+        let mut untold = untold(&objects);
+        if closure_beyond(alloc, &mut untold, &mut known, &[root], &mut steps)? == Closure::Closed {
+            counts = (counts.1, untold.looks());
         }
     }
     Ok(counts)

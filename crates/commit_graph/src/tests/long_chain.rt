@@ -19,8 +19,8 @@ pub(crate) fn commit(alloc: Global, parent: Option<Oid>) -> Result<Vec<u8>, NoMe
     Ok(bytes)
 }
 
-// A chain of commits, with the first and the last.
-fn chain_of(alloc: Global, length: usize) -> Result<(MemObjects, Oid, Oid), NoMemory> {
+/// A chain of commits over one tree, with the first and the last.
+pub(crate) fn chain_of(alloc: Global, length: usize) -> Result<(MemObjects, Oid, Oid), NoMemory> {
     let mut objects = MemObjects::new(alloc);
     objects.put(alloc, Kind::Tree, b"")?;
     let root = objects.put(alloc, Kind::Commit, &commit(alloc, None)?)?;

@@ -1,21 +1,17 @@
 // Faults of look-ups, which are answered as they are.
-use super::failing::{Failing, Failure, held};
 use super::long_chain::{CHANGE, FIRST, ONE, at};
 use super::told::{keyring_of, put_all};
 use crate::{IdFault, id_chain};
-use commit_graph::{GetFault, MemObjects};
+use commit_graph::{FailingObjects, Failure, GetFault, MemObjects};
 use keyring::Keyring;
 use rad_base::{Oid, Rid};
 use std::alloc::Global;
 use std::test::Fail;
 
-// More look-ups than the chain takes.
-const MOST: u64 = 1_000;
-
 // The fault of a look-up that is answered.
 fn fault_answered(
     alloc: Global,
-    store: &mut Failing<'_>,
+    store: &mut FailingObjects<'_>,
     keyring: &Keyring,
     rid: Oid,
     tip: Oid,
@@ -36,20 +32,19 @@ fn faults_of_look_ups_are_handed_on(rt: HostRuntime) -> Result<(), Fail> {
     names.push(root)?;
     put_all(alloc, &mut objects, &mut names, &CHANGE)?;
     let tip = at(&names, 9);
-    let objects = held(alloc, &objects, &names)?;
     let keyring = keyring_of(alloc, b"a", FIRST)?;
 
-    let mut store = Failing::new(&objects, Failure::Disk, MOST);
+    let mut store = FailingObjects::new(&objects, Failure::Disk, u64::MAX);
     let doc = id_chain(alloc, &mut store, &keyring, &Rid(rid), &tip)?;
     assert_eq!(rt; doc.threshold, 1);
-    let looks = MOST.saturating_sub(store.left());
+    let looks = store.looks();
     assert!(rt; looks > 0);
-    for failure in [Failure::Disk, Failure::Changed] {
+    for failure in [Failure::Disk, Failure::Change] {
         for answered in 0..looks {
-            let mut store = Failing::new(&objects, failure, answered);
+            let mut store = FailingObjects::new(&objects, failure, answered);
             let fault = fault_answered(alloc, &mut store, &keyring, rid, tip);
             assert!(rt; fault.is_some());
-            assert_eq!(rt; fault, store.answered());
+            assert_eq!(rt; fault, store.fault());
         }
     }
     Ok(())

@@ -1,10 +1,9 @@
 // Commits of signed refs, those of an independent program and others.
-use super::failing::{Failing, Failure, Held};
 use super::objects::{CASES, KEYRING, OBJECTS, Said};
 use super::{blob_of, push_times};
 use crate::{SigFault, signed};
-use commit_graph::{MemObjects, Objects};
-use git_object::{Kind, name_of, write_commit};
+use commit_graph::{FailingObjects, Failure, MemObjects, Objects};
+use git_object::{Kind, write_commit};
 use keyring::Keyring;
 use rad_base::{Nid, NoMemory, Oid, Rid, parse_oid, until};
 use std::alloc::{AllocError, Global};
@@ -154,13 +153,10 @@ fn the_first_that_fails_is_told(rt: HostRuntime) -> Result<(), Fail> {
     Ok(())
 }
 
-// More look-ups than a case takes.
-const MOST: u64 = 1_000;
-
 // How many refs the commit of a case says.
 fn count_failing(
     alloc: Global,
-    objects: &mut Failing<'_>,
+    objects: &mut FailingObjects<'_>,
     keyring: &Keyring,
     case: (&[u8], u8, &[u8]),
 ) -> Result<usize, SigFault> {
@@ -179,11 +175,11 @@ fn count_failing(
 // Whether the fault of a look-up is what is answered.
 fn is_handed_on(
     alloc: Global,
-    store: &mut Failing<'_>,
+    store: &mut FailingObjects<'_>,
     keyring: &Keyring,
     case: (&[u8], u8, &[u8]),
 ) -> bool {
-    match (count_failing(alloc, store, keyring, case), store.answered()) {
+    match (count_failing(alloc, store, keyring, case), store.fault()) {
         (Err(SigFault::Get(fault)), Some(answered)) => fault == answered,
         _ => false,
     }
@@ -192,25 +188,24 @@ fn is_handed_on(
 #[test]
 fn faults_of_look_ups_are_handed_on(rt: HostRuntime) -> Result<(), Fail> {
     let alloc = rt.alloc();
-    let mut objects = Held::new(alloc);
+    let mut objects = MemObjects::new(alloc);
     for (kind, pieces) in OBJECTS {
-        let bytes = content(alloc, kind, pieces)?;
-        objects.insert(name_of(kind, &bytes), (kind, bytes))?;
+        objects.put(alloc, kind, &content(alloc, kind, pieces)?)?;
     }
     let keyring = Keyring::read(alloc, &keyring_of(alloc, &KEYRING)?)?;
     for (rid, byte, commit, said) in CASES {
         let case = (rid, byte, commit);
-        let mut store = Failing::new(&objects, Failure::Disk, MOST);
+        let mut store = FailingObjects::new(&objects, Failure::Disk, u64::MAX);
         assert_eq!(rt;
             count_failing(alloc, &mut store, &keyring, case),
             fault(said)
         );
-        let looks = MOST.saturating_sub(store.left());
+        let looks = store.looks();
         assert!(rt; looks > 0);
         for answered in 0..looks {
-            let mut store = Failing::new(&objects, Failure::Disk, answered);
+            let mut store = FailingObjects::new(&objects, Failure::Disk, answered);
             assert!(rt; is_handed_on(alloc, &mut store, &keyring, case));
-            let mut store = Failing::new(&objects, Failure::Changed, answered);
+            let mut store = FailingObjects::new(&objects, Failure::Change, answered);
             assert!(rt; is_handed_on(alloc, &mut store, &keyring, case));
         }
     }

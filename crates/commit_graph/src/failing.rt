@@ -1,0 +1,113 @@
+// Objects in memory that count their look-ups and come to fail.
+ghost use Rattle.std.specs.Prelude.{◌≡◌, ◌≤◌, None};
+ghost use Rattle.commit_graph.specs.Faults.{IsAskedFor, IsCause};
+
+use crate::{Changed, GetFault, MemObjects, Objects};
+use git_object::{Kind, name_of};
+use rad_base::Oid;
+
+/// How a look-up fails.
+#[derive(Clone, Copy, Debug, PartialEq, Eq)]
+pub enum Failure {
+    /// With `DiskFault`.
+    Disk,
+    /// With `Changed`, which finds the empty blob in the place of the object.
+    Change,
+}
+
+// The fault of a look-up of a name. That of the empty blob itself fails as a disk does.
+fn fault_of(failure: Failure, oid: &Oid, faults: &mut u64) -> GetFault
+    ensures later { faults.old ≤ faults.new }
+    ensures cause { IsCause None faults.old faults.new result }
+    ensures asked { IsAskedFor oid.now result }
+{
+    let found = name_of(Kind::Blob, b"");
+    match failure {
+        Failure::Change if found != *oid => GetFault::Changed(Changed {
+            place: 0,
+            name: *oid,
+            found,
+        }),
+        _ => {
+            *faults = faults.saturating_add(1);
+            GetFault::DiskFault
+        }
+    }
+}
+
+/// Objects in memory that count their look-ups, of which all behind a number fail, as those of a
+/// disk may. It tells no content: contracts see of it what they see of objects in a file.
+#[derive(Drop)]
+pub struct FailingObjects<'a> {
+    objects: &'a MemObjects,
+    failure: Failure,
+    answers: u64,
+    looks: u64,
+    faults: u64,
+    fault: Option<GetFault>,
+}
+
+impl<'a> FailingObjects<'a> {
+    ghost use Rattle.commit_graph.specs.FailingObjects.{answers_of, fault_of, looks_of};
+
+    /// These objects. So many look-ups are answered, and each later one fails in this way.
+    pub fn new(objects: &'a MemObjects, failure: Failure, answers: u64) -> Self
+        ensures answers { answers_of result ≡ answers }
+        ensures looks { looks_of result ≡ 0 }
+        ensures fault { fault_of result ≡ None }
+    {
+        FailingObjects {
+            objects,
+            failure,
+            answers,
+            looks: 0,
+            faults: 0,
+            fault: None,
+        }
+    }
+
+    /// How many look-ups there were, with those that failed; at most 2^64 - 1.
+    pub fn looks(&self) -> u64
+        ensures { result ≡ looks_of self.now }
+    {
+        self.looks
+    }
+
+    /// The fault of the last look-up that failed, where one did.
+    pub fn fault(&self) -> Option<GetFault>
+        ensures { result ≡ fault_of self.now }
+    {
+        self.fault
+    }
+}
+
+impl Objects for FailingObjects<'_> {
+    ghost use Rattle.std.proofs.Common.{rules};
+    ghost use Rattle.commit_graph.specs.FailingObjects.{looks_of};
+
+    ghost content = { λ _. None };
+
+    ghost faults = { λ store. store.faults };
+
+    ghost looks = { looks_of };
+
+    ghost Beside = { Unit {0} };
+
+    ghost beside = { λ _. tt };
+
+    fn get(&mut self, oid: &Oid) -> Result<Option<(Kind, &[u8])>, GetFault> {
+        let fails = self.looks >= self.answers;
+        self.looks = self.looks.saturating_add(1);
+        if fails {
+            let fault = fault_of(self.failure, oid, &mut self.faults);
+            self.fault = Some(fault);
+            return Err(fault);
+        }
+        match self.objects.held.get(oid) {
+            None => Ok(None),
+            Some(held) => Ok(Some((held.kind, held.bytes.as_slice()))),
+        }
+    }
+
+    ghost named = { Prim.search rules };
+}
