@@ -1,8 +1,8 @@
 -- Integers in one to eight bytes, as RFC 9000 section 16 has them, each in its shortest spelling
 -- alone.
-use Rattle.std.specs.Prelude.{◌≡◌, ℕ, ◌+◌, ◌*◌, ◌/◌, ◌^◌, ◌<◌, nat_lt}
-use Rattle.std.specs.Prelude.{if◌then◌else◌, List, [], ◌∷◌, ◌++◌, length}
-use Rattle.std.specs.Int.{to_be_bytes, w16, w32, w64}
+use Rattle.std.specs.Prelude.{◌≡◌, ℕ, ◌+◌, ◌-◌, ◌*◌, ◌/◌, ◌^◌, ◌<◌, nat_lt}
+use Rattle.std.specs.Prelude.{if◌then◌else◌, List, [], ◌∷◌, ◌++◌, length, take}
+use Rattle.std.specs.Int.{from_be_bytes, to_be_bytes, w16, w32, w64}
 use Rattle.rad_base.specs.declared.varint.Varint.{Varint}
 use Rattle.rad_base.specs.declared.varint.Varint.TheVariants.{Value, Short, Long}
 
@@ -72,6 +72,35 @@ abbrev pub ReadsVarint : List ℕ → Varint → Type 0
 ReadsVarint bytes (Value n size) = BeginsWithVarint bytes n size
 ReadsVarint bytes Short = EndsInside bytes
 ReadsVarint bytes Long = BeginsWithLong bytes
+
+-- a number in a size whose least number is this
+abbrev pub shortest_or_long : ℕ → ℕ → ℕ → Varint
+shortest_or_long number least size = if nat_lt number least then Long else Value number size
+
+-- what stands at the front of bytes of which the first says that they are two, four or eight
+abbrev pub two_in : List ℕ → Varint
+two_in bytes =
+    if nat_lt (length bytes) 2 then Short
+    else shortest_or_long (from_be_bytes w16 (take 2 bytes) - 2 ^ 14) (2 ^ 6) 2
+
+abbrev pub four_in : List ℕ → Varint
+four_in bytes =
+    if nat_lt (length bytes) 4 then Short
+    else shortest_or_long (from_be_bytes w32 (take 4 bytes) - 2 ^ 31) (2 ^ 14) 4
+
+abbrev pub eight_in : List ℕ → Varint
+eight_in bytes =
+    if nat_lt (length bytes) 8 then Short
+    else shortest_or_long (from_be_bytes w64 (take 8 bytes) - 3 * 2 ^ 62) (2 ^ 30) 8
+
+-- what reading answers, as a function of the bytes
+abbrev pub varint_in : List ℕ → Varint
+varint_in [] = Short
+varint_in (first ∷ rest) =
+    if nat_lt first 64 then Value first 1
+    else if nat_lt first 128 then two_in (first ∷ rest)
+    else if nat_lt first 192 then four_in (first ∷ rest)
+    else eight_in (first ∷ rest)
 
 -- no spelling begins another
 abbrev pub NoVarintBeginsAnother : Type 0

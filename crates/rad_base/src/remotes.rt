@@ -1,6 +1,6 @@
 // Remotes: keys of nodes with a commit each.
-ghost use Rattle.std.specs.Prelude.{◌≡◌, ◌∷◌, ◌++◌, [], OnOk, OnErr};
-ghost use Rattle.rad_base.specs.Order.{IsAbove, IsRising};
+ghost use Rattle.std.specs.Prelude.{◌≡◌, ◌∷◌, ◌++◌, [], IsTrue, ◌↔◌, OnOk, OnErr};
+ghost use Rattle.rad_base.specs.Order.{IsAbove, IsRising, commit_of, is_above};
 
 use crate::{Nid, NoMemory, Oid};
 use std::alloc::Global;
@@ -53,6 +53,29 @@ impl Remotes {
     {
         self.items.push((node, oid))?;
         Ok(())
+    }
+
+    /// Whether a key is above those of the list, so that it may be pushed.
+    pub fn is_above(&self, node: &Nid) -> bool
+        ensures test { result ≡ is_above self.now node.now }
+        ensures above { IsTrue result ↔ IsAbove self.now node.now }
+    {
+        match self.as_slice().last() {
+            Some(last) => last.0.cmp(node).is_lt(),
+            None => true,
+        }
+    }
+
+    /// The name of a node's commit, if the node has a remote. It looks at few of the remotes, as
+    /// their keys rise.
+    pub fn get(&self, node: &Nid) -> Option<Oid>
+        ensures { result ≡ commit_of self.now node.now }
+    {
+        let remotes = self.as_slice();
+        match remotes.binary_search_by_key(node, |remote| remote.0) {
+            Ok(i) => Some(remotes[i].1),
+            Err(_) => None,
+        }
     }
 
     /// The remotes, their keys strictly rising.

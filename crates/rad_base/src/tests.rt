@@ -37,6 +37,28 @@ fn lists_keep_what_is_pushed(rt: HostRuntime) -> Result<(), Fail> {
 }
 
 #[test]
+fn remotes_are_found(rt: HostRuntime) -> Result<(), Fail> {
+    let alloc = rt.alloc();
+    for count in 0..9u8 {
+        let mut remotes = Remotes::new(alloc);
+        for k in 0..count {
+            remotes.push(Nid([2 * k + 1; 32]), Oid([k; 20]))?;
+        }
+        for key in 0..20u8 {
+            let node = Nid([key; 32]);
+            let found = (key % 2 == 1 && key / 2 < count).then_some(Oid([key / 2; 20]));
+            assert_eq!(rt; remotes.get(&node), found, "{key} of {count}");
+            assert_eq!(rt;
+                remotes.is_above(&node),
+                2 * count <= key,
+                "{key} of {count}"
+            );
+        }
+    }
+    Ok(())
+}
+
+#[test]
 fn fronts_are_read(rt: HostRuntime) {
     let digits = [b'0'; 130];
     let line = b"key value\nrest";

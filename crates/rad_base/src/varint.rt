@@ -1,8 +1,8 @@
 // Integers in one to eight bytes, as RFC 9000 section 16 has them.
-ghost use Rattle.std.specs.Prelude.{◌≡◌, ◌/◌, ◌^◌, ◌<◌, drop, if◌then◌else◌, length, nat_lt};
-ghost use Rattle.std.specs.Prelude.{slice_index, take};
+ghost use Rattle.std.specs.Prelude.{◌≡◌, ◌/◌, ◌^◌, ◌<◌, drop, length, slice_index, take};
 ghost use Rattle.rad_base.specs.Varint.{NoVarintBeginsAnother, ReadsVarint, VarintReadsBack};
-ghost use Rattle.rad_base.specs.Varint.{varint};
+ghost use Rattle.rad_base.specs.Varint.{eight_in, four_in, shortest_or_long, two_in};
+ghost use Rattle.rad_base.specs.Varint.{varint, varint_in};
 
 /// What reading an integer answers that is spelled as RFC 9000 section 16 has it.
 #[derive(Clone, Copy, Debug, PartialEq, Eq)]
@@ -17,7 +17,7 @@ pub enum Varint {
 
 // A number, where it is no less than the least one of its size.
 fn if_shortest(number: u64, least: u64, size: usize) -> Varint
-    ensures { result ≡ (if nat_lt number least then Varint.Long else Varint.Value number size) }
+    ensures { result ≡ shortest_or_long number least size }
 {
     if number < least {
         Varint::Long
@@ -29,7 +29,7 @@ fn if_shortest(number: u64, least: u64, size: usize) -> Varint
 // A number of which the first byte says that it has two bytes.
 fn read_two(bytes: &[u8]) -> Varint
     requires { slice_index bytes.now 0 / 64 ≡ 1 }
-    ensures { ReadsVarint bytes.now result }
+    ensures { result ≡ two_in bytes.now }
 {
     let Some(front) = bytes.first_chunk::<2>() else {
         return Varint::Short;
@@ -41,7 +41,7 @@ fn read_two(bytes: &[u8]) -> Varint
 // A number of which the first byte says that it has four bytes.
 fn read_four(bytes: &[u8]) -> Varint
     requires { slice_index bytes.now 0 / 64 ≡ 2 }
-    ensures { ReadsVarint bytes.now result }
+    ensures { result ≡ four_in bytes.now }
 {
     let Some(front) = bytes.first_chunk::<4>() else {
         return Varint::Short;
@@ -53,7 +53,7 @@ fn read_four(bytes: &[u8]) -> Varint
 // A number of which the first byte says that it has eight bytes.
 fn read_eight(bytes: &[u8]) -> Varint
     requires { slice_index bytes.now 0 / 64 ≡ 3 }
-    ensures { ReadsVarint bytes.now result }
+    ensures { result ≡ eight_in bytes.now }
 {
     let Some(front) = bytes.first_chunk::<8>() else {
         return Varint::Short;
@@ -62,10 +62,9 @@ fn read_eight(bytes: &[u8]) -> Varint
     if_shortest(number, 1 << 30, 8)
 }
 
-/// The number at the front of the bytes, in the encoding of RFC 9000 section 16, the shortest
-/// spelling alone. The two highest bits of the first byte say how many bytes it has.
-pub fn read_varint(bytes: &[u8]) -> Varint
-    ensures { ReadsVarint bytes.now result }
+// The number at the front, by the size that the first byte says.
+fn front_number(bytes: &[u8]) -> Varint
+    ensures { result ≡ varint_in bytes.now }
 {
     let Some(first) = bytes.first() else {
         return Varint::Short;
@@ -76,6 +75,15 @@ pub fn read_varint(bytes: &[u8]) -> Varint
         128..192 => read_four(bytes),
         192..=255 => read_eight(bytes),
     }
+}
+
+/// The number at the front of the bytes, in the encoding of RFC 9000 section 16, the shortest
+/// spelling alone. The two highest bits of the first byte say how many bytes it has.
+pub fn read_varint(bytes: &[u8]) -> Varint
+    ensures reads { ReadsVarint bytes.now result }
+    ensures exact { result ≡ varint_in bytes.now }
+{
+    front_number(bytes)
 }
 
 /// Writes the shortest spelling of `n`, which is below 2^62, to the front, and answers how many

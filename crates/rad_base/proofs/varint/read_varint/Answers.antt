@@ -1,8 +1,10 @@
-use Rattle.std.proofs.Common.{◌<◌, ◌∙◌, Some, ap, arith}
-use Rattle.rad_base.proofs.Varints.{read_one_is}
+use Rattle.std.proofs.Common.{sym, subst, arith}
+use Rattle.rad_base.specs.Varint.{ReadsVarint}
+use Rattle.rad_base.specs.declared.varint.Varint.{Varint}
+use Rattle.rad_base.proofs.VarintReads.{reads}
 use Rattle.rad_base.proofs.varint.read_varint.Goals as goal
 
-pub returns-in-0-to-63 : goal.returns-in-0-to-63
-returns-in-0-to-63 c =
-    let low : c.from.result < 64 = omega arith in
-    read_one_is c.args.bytes.now c.from.result (ap Some c.from.ensures ∙ c.in-Some.ensures.value) low
+pub returns-clause-reads : goal.returns-clause-reads
+returns-clause-reads c =
+    subst (λ (answer : Varint). ReadsVarint c.args.bytes.now answer) (sym c.front_number.ensures)
+    (reads c.args.bytes.now (λ i. omega (arith, c.type_inv.bytes i)))

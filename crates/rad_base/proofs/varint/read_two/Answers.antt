@@ -1,8 +1,0 @@
-use Rattle.std.proofs.Common.{arith}
-use Rattle.rad_base.proofs.Varints.{front_at, read_two_is}
-use Rattle.rad_base.proofs.varint.read_two.Goals as goal
-
-pub returns : goal.returns
-returns c =
-    let front = front_at 2 c.args.bytes.now c.in-Some.front.now c.in-Some.ensures.cases (λ i. omega (arith, c.type_inv.bytes i)) in
-    read_two_is c.args.bytes.now c.in-Some.front.now c.from_be_bytes.result front c.requires c.from_be_bytes.ensures _ _ c.from.ensures c.if_shortest.ensures
