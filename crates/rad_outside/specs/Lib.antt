@@ -3,6 +3,7 @@ pub mod Causes
 pub mod Disks
 pub mod FailingCalls
 pub mod MemDisk
+pub mod MemLink
 pub mod MemSink
 pub mod MemSource
 pub mod MemoryDisk

@@ -11,6 +11,10 @@ use std::rt::Files;
 /// Where there is no file the disk is empty, and the first write makes one. A path that cannot be
 /// used, as that of a folder or of a file that may not be read and written, makes the first call
 /// fail.
+///
+/// Once a sync has failed, each later sync of this disk fails: the operating system may have lost
+/// bytes that it then counts as written, so that no later sync says anything of them. What another
+/// process, or another disk over the same file, syncs and reads is not known to this one.
 #[derive(Drop)]
 pub struct FileDisk<R: Files + Drop> {
     file: PathFile<R>,

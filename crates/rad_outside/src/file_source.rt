@@ -2,9 +2,10 @@
 ghost use Rattle.std.specs.Prelude.{◌≡◌, ◌≤◌, length, None, IfOk};
 
 use crate::failed::count_fault;
+use crate::interrupted::read_through;
 use crate::{Failed, Source};
 use std::fs::File;
-use std::io::{self, Read};
+use std::io;
 use std::rt::Files;
 
 /// A file that the first take opens.
@@ -37,7 +38,7 @@ impl<R: Files + Drop> FileSource<R> {
             Some(file) => file,
             None => File::open(&self.rt, self.path.as_str())?,
         };
-        let read = file.read(into);
+        let read = read_through(&mut file, into);
         self.file = Some(file);
         read
     }
@@ -49,6 +50,8 @@ impl<R: Files + Drop> Source for FileSource<R> {
     ghost faults = { λ s. s.faults };
 
     ghost loan = { λ _. 0 };
+
+    ghost beside = { λ _. None };
 
     fn take(&mut self, into: &mut [u8]) -> Result<usize, Failed> {
         match self.read(into) {

@@ -6,9 +6,16 @@ mod call_log;
 mod disk;
 mod failed;
 mod failing_calls;
+#[cfg(test)]
+mod fake_files;
 mod file_disk;
 mod file_source;
+#[cfg(test)]
+mod file_tests;
+mod interrupted;
+mod link;
 mod memory_disk;
+mod memory_link;
 mod memory_sink;
 mod memory_source;
 mod path_file;
@@ -22,7 +29,9 @@ pub use disk::Disk;
 pub use failed::Failed;
 pub use file_disk::FileDisk;
 pub use file_source::FileSource;
+pub use link::Link;
 pub use memory_disk::MemDisk;
+pub use memory_link::MemLink;
 pub use memory_sink::MemSink;
 pub use memory_source::MemSource;
 pub use sink::Sink;

@@ -1,6 +1,7 @@
 // The file at a path, which need not be there before the first write.
 ghost use Rattle.std.specs.Prelude.{◌≤◌, length, IfOk};
 
+use crate::interrupted::{read_through, seek_through};
 use std::fs::{File, OpenFile, OpenOptions};
 use std::io::{self, Read, Seek, SeekFrom, Write};
 use std::path::Path;
@@ -13,6 +14,7 @@ pub(crate) struct PathFile<R: Files + Drop> {
     // None as long as no file was found or made.
     file: Option<R::File>,
     folder_synced: bool,
+    sync_failed: bool,
 }
 
 impl<R: Files + Drop> PathFile<R> {
@@ -22,12 +24,13 @@ impl<R: Files + Drop> PathFile<R> {
             path,
             file: None,
             folder_synced: false,
+            sync_failed: false,
         }
     }
 
     pub(crate) fn size(&mut self) -> io::Result<u64> {
         match self.found()? {
-            Some(file) => file.seek(SeekFrom::End(0)),
+            Some(file) => seek_through(file, SeekFrom::End(0)),
             None => Ok(0),
         }
     }
@@ -37,7 +40,7 @@ impl<R: Files + Drop> PathFile<R> {
     {
         match self.found()? {
             Some(file) => {
-                file.seek(SeekFrom::Start(place))?;
+                seek_through(file, SeekFrom::Start(place))?;
                 fill(file, into)
             }
             None => Ok(0),
@@ -49,13 +52,24 @@ impl<R: Files + Drop> PathFile<R> {
         if bytes.is_empty() {
             return lengthen(file, place);
         }
-        file.seek(SeekFrom::Start(place))?;
+        seek_through(file, SeekFrom::Start(place))?;
         file.write_all(bytes)?;
         file.flush()
     }
 
-    // The first sync of a file makes its name last too.
+    // Where one has failed each later one fails: the system may have lost the bytes, and count them
+    // as written.
     pub(crate) fn sync(&mut self) -> io::Result<()> {
+        if self.sync_failed {
+            return Err(io::Error::from(io::ErrorKind::Other));
+        }
+        let done = self.sync_bytes_and_name();
+        self.sync_failed = done.is_err();
+        done
+    }
+
+    // The first sync of a file makes its name last too.
+    fn sync_bytes_and_name(&mut self) -> io::Result<()> {
         match self.found()? {
             Some(file) => file.sync_all()?,
             None => return Ok(()),
@@ -106,7 +120,7 @@ fn fill<F: Read>(file: &mut F, into: &mut [u8]) -> io::Result<usize>
 {
     let mut filled = 0;
     'filling: while filled < into.len() {
-        let n = file.read(&mut into[filled..])?;
+        let n = read_through(file, &mut into[filled..])?;
         if n == 0 {
             break;
         }
@@ -117,7 +131,7 @@ fn fill<F: Read>(file: &mut F, into: &mut [u8]) -> io::Result<usize>
 
 // An empty write past the end moves the end too.
 fn lengthen<F: Seek + OpenFile>(file: &mut F, place: u64) -> io::Result<()> {
-    if file.seek(SeekFrom::End(0))? < place {
+    if seek_through(file, SeekFrom::End(0))? < place {
         file.set_len(place)?;
     }
     Ok(())

@@ -1,5 +1,7 @@
 // The adapters over real files, and each trait through its bound.
-use crate::{Disk, Failed, FileDisk, FileSource, MemDisk, MemSink, MemSource, Sink, Source};
+use crate::{
+    Disk, Failed, FileDisk, FileSource, Link, MemDisk, MemLink, MemSink, MemSource, Sink, Source,
+};
 use std::test::Fail;
 use std::{env, fs, io, process};
 
@@ -39,6 +41,39 @@ fn lent_objects(rt: HostRuntime) -> Result<(), Fail> {
     let mut sink = MemSink::new(alloc, vec![in alloc]?);
     assert_eq!(rt; pass_on(&mut &mut source, &mut &mut sink), Err(Failed));
     assert_eq!(rt; sink.bytes(), b"some bytes".as_slice());
+    Ok(())
+}
+
+// Gives back what comes, until nothing does.
+fn give_back<L: Link>(link: &mut L) -> Result<(), Failed> {
+    let mut piece = [0u8; 2];
+    for _ in 0..8 {
+        let n = link.take(&mut piece)?;
+        link.give(&piece[..n])?;
+    }
+    Ok(())
+}
+
+#[test]
+fn a_link_in_memory(rt: HostRuntime) -> Result<(), Fail> {
+    let alloc = rt.alloc();
+    let mut link = MemLink::new(alloc, b"abcde".to_vec(alloc)?, 3, vec![in alloc]?);
+    assert_eq!(rt; give_back(&mut &mut link), Ok(()));
+    assert_eq!(rt; link.output(), b"abcde".as_slice());
+
+    let fails = vec![in alloc; 2u64, 3]?;
+    let mut link = MemLink::new(alloc, b"abcde".to_vec(alloc)?, 3, fails);
+    let mut into = [0u8; 4];
+    assert_eq!(rt; (link.give(b"x"), link.take(&mut into)), (Ok(1), Ok(3)));
+    assert_eq!(rt;
+        (link.take(&mut into), link.give(b"y")),
+        (Err(Failed), Err(Failed))
+    );
+    assert_eq!(rt; (link.take(&mut into), link.give(b"z")), (Ok(2), Ok(1)));
+    assert_eq!(rt;
+        (link.take(&mut into), link.output()),
+        (Ok(0), b"xz".as_slice())
+    );
     Ok(())
 }
 

@@ -1,0 +1,26 @@
+// Reads and seeks that are done again where a signal interrupts them, as std does writes and syncs.
+ghost use Rattle.std.specs.Prelude.{◌≤◌, length, IfOk};
+
+use std::io::{self, ErrorKind, Read, Seek, SeekFrom};
+
+pub(crate) fn read_through<F: Read>(file: &mut F, into: &mut [u8]) -> io::Result<usize>
+    ensures { IfOk result (λ n. n ≤ length into.new) }
+{
+    for _ in 0..u64::MAX {
+        match file.read(into) {
+            Err(error) if error.kind() == ErrorKind::Interrupted => {}
+            answer => return answer,
+        }
+    }
+    Err(io::Error::from(ErrorKind::Interrupted))
+}
+
+pub(crate) fn seek_through<F: Seek>(file: &mut F, to: SeekFrom) -> io::Result<u64> {
+    for _ in 0..u64::MAX {
+        match file.seek(to) {
+            Err(error) if error.kind() == ErrorKind::Interrupted => {}
+            answer => return answer,
+        }
+    }
+    Err(io::Error::from(ErrorKind::Interrupted))
+}
