@@ -1,5 +1,7 @@
 pub mod CallLog
 pub mod Causes
+pub mod CrashLaws
+pub mod Crashes
 pub mod Disks
 pub mod FailingCalls
 pub mod MemDisk

@@ -1,8 +1,8 @@
 -- What a disk in memory reads as is one of its images.
 use Rattle.std.specs.Prelude.{◌≡◌, ℕ, ◌-◌, ◌/◌, ◌≤◌, List, [], ◌∷◌, ◌++◌, length, replicate, refl}
-use Rattle.std.specs.Prelude.{Bool, true, false, if◌then◌else◌}
-use Rattle.std.proofs.Common.{arith, sym, subst, ◌∙◌, ap}
-use Rattle.std.proofs.lemmas.List.{length-take, length-replicate}
+use Rattle.std.specs.Prelude.{Bool, true, false, if◌then◌else◌, ◌+◌, ◌<◌, take}
+use Rattle.std.proofs.Common.{arith, sym, subst, ◌∙◌, ap, get_or}
+use Rattle.std.proofs.lemmas.List.{length-take, length-replicate, take_more}
 use Rattle.rad_outside.specs.Disks.{Follows, Torn, Within, Writes}
 use Rattle.rad_outside.specs.TornLaws.{torn_writes}
 use Rattle.rad_outside.specs.MemoryDisk.{State, new_state, after, after_all, state_after, written}
@@ -77,6 +77,14 @@ pub state_pushed : (first : List ℕ) (old new : List Call) (call : Call)
     → new ≡ old ++ call ∷ [] → state_after first new ≡ after (state_after first old) call
 state_pushed first old new call e =
     ap (state_after first) e ∙ after_all-push old (new_state first) call
+
+-- the calls up to the next one are one step more
+pub state_taken : (first : List ℕ) (calls : List Call) (i : ℕ) (call : Call)
+    → i < length calls → call ≡ get_or calls i call
+    → state_after first (take (i + 1) calls) ≡ after (state_after first (take i calls)) call
+state_taken first calls i call inside at =
+    state_pushed first (take i calls) (take (i + 1) calls) call
+    (take_more calls i call inside ∙ ap (λ (x : Call). take i calls ++ x ∷ []) (sym at))
 
 -- a size or a read, kept or not
 pub looked : (first : List ℕ) (old new : List Call) (kept : Bool)

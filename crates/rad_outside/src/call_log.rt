@@ -2,7 +2,9 @@
 ghost use Rattle.std.specs.Prelude.{◌≡◌, ◌++◌, ◌∷◌, [], length, is_ok, IfOk, OnOk, OnErr};
 ghost use Rattle.rad_outside.specs.MemoryDisk.{latest, overwritten, part, state_after};
 
+use crate::Fill;
 use crate::call::Call;
+use crate::crash::{image_after, reads_after};
 use std::alloc::{AllocError, Global};
 
 #[derive(Drop)]
@@ -18,6 +20,7 @@ pub(crate) struct CallLog {
 impl CallLog {
     ghost use Rattle.rad_outside.specs.MemoryDisk.{new_state, synced, written, IsImage};
     ghost use Rattle.rad_outside.specs.Disks.{Follows, Torn, Within};
+    ghost use Rattle.rad_outside.specs.Crashes.{filled_image, state_at};
     ghost use Rattle.rad_outside.specs.CallLog.{Passes, moment_after, moment_of, state_of};
 
     // No calls on these bytes.
@@ -40,6 +43,13 @@ impl CallLog {
             Some(bytes) => bytes,
             None => &self.first,
         }
+    }
+
+    // How many calls there were.
+    pub(crate) fn calls(&self) -> u64
+        ensures { result ≡ moment_of self.now }
+    {
+        self.calls.len() as u64
     }
 
     // Keeps a size or a read.
@@ -82,6 +92,25 @@ impl CallLog {
         self.calls.push(Call::Sync(failed))?;
         Ok(())
     }
+
+    // The image that a crash leaves after the first `call` calls, where the ranges are filled so.
+    pub(crate) fn crash(
+        &self,
+        alloc: Global,
+        call: usize,
+        fill: Fill,
+    ) -> Result<Vec<u8>, AllocError>
+        ensures { IfOk result
+            (λ image. image.items ≡ filled_image fill (state_at self.now call)) }
+    {
+        let mut reads = self.first.to_vec(alloc)?;
+        let mut image = self.first.to_vec(alloc)?;
+        for had in &self.calls[..call.min(self.calls.len())] {
+            image = image_after(alloc, image, &reads, had, fill)?;
+            reads = reads_after(alloc, reads, had)?;
+        }
+        Ok(image)
+    }
 }
 
 fn copy_of(alloc: Global, bytes: &[u8]) -> Result<Vec<u8>, AllocError>
@@ -91,7 +120,7 @@ fn copy_of(alloc: Global, bytes: &[u8]) -> Result<Vec<u8>, AllocError>
 }
 
 // The first half where the write fails, else all.
-fn part_of(bytes: &[u8], failed: bool) -> &[u8]
+pub(crate) fn part_of(bytes: &[u8], failed: bool) -> &[u8]
     ensures { result.now ≡ part failed bytes.now }
 {
     if failed {
@@ -102,7 +131,12 @@ fn part_of(bytes: &[u8], failed: bool) -> &[u8]
 }
 
 // The bytes after a write.
-fn write_over(alloc: Global, old: &[u8], place: u64, bytes: &[u8]) -> Result<Vec<u8>, AllocError>
+pub(crate) fn write_over(
+    alloc: Global,
+    old: &[u8],
+    place: u64,
+    bytes: &[u8],
+) -> Result<Vec<u8>, AllocError>
     ensures { IfOk result (λ new. new.items ≡ overwritten place bytes.now old.now) }
 {
     let at = place as usize;

@@ -3,6 +3,7 @@
 
 mod call;
 mod call_log;
+mod crash;
 mod disk;
 mod failed;
 mod failing_calls;
@@ -12,6 +13,7 @@ mod file_disk;
 mod file_source;
 #[cfg(test)]
 mod file_tests;
+mod fill;
 mod interrupted;
 mod link;
 mod memory_disk;
@@ -29,6 +31,7 @@ pub use disk::Disk;
 pub use failed::Failed;
 pub use file_disk::FileDisk;
 pub use file_source::FileSource;
+pub use fill::Fill;
 pub use link::Link;
 pub use memory_disk::MemDisk;
 pub use memory_link::MemLink;

@@ -14,7 +14,8 @@ ghost use Rattle.rad_outside.specs.CallLog.{moment_of, since_of, state_of};
 use crate::call_log::CallLog;
 use crate::failed::count_fault;
 use crate::failing_calls::FailingCalls;
-use crate::{Disk, Failed};
+use crate::{Disk, Failed, Fill};
+use rad_base::NoMemory;
 use std::alloc::{AllocError, Global};
 
 /// Bytes in memory as a disk. A call that finds no memory fails, and is not counted as a call.
@@ -26,6 +27,8 @@ pub struct MemDisk {
 }
 
 impl MemDisk {
+    ghost use Rattle.std.specs.Prelude.{min};
+    ghost use Rattle.rad_outside.specs.Crashes.{filled_image, state_at};
     ghost use Rattle.rad_outside.specs.MemDisk.{fails_of};
 
     /// A disk with these bytes, all of them synced. The calls that `fails` lists, counted from 0,
@@ -48,6 +51,25 @@ impl MemDisk {
         ensures { ⟦<MemDisk as Disk>⟧.reads_as self.now ≡ Some result.now }
     {
         self.log.bytes()
+    }
+
+    /// How many calls it has had, sizes and reads among them.
+    pub fn calls(&self) -> u64
+        ensures { result ≡ moment_of self.now.log }
+    {
+        self.log.calls()
+    }
+
+    /// The image that a crash leaves after the first `call` of the calls that it has had, or after
+    /// all where they are fewer: the ranges that were written since the last sync that succeeded
+    /// hold what `fill` says. `NoMemory`: memory was refused.
+    pub fn crash(&self, alloc: Global, call: u64, fill: Fill) -> Result<Vec<u8>, NoMemory>
+        ensures image { IfOk result
+            (λ image. image.items ≡ filled_image fill (state_at self.now.log call)) }
+        ensures since { IfOk result (λ image. since_of self.now.log
+            (min call (moment_of self.now.log)) image.items) }
+    {
+        Ok(self.log.crash(alloc, call as usize, fill)?)
     }
 
     // Counts a call that was kept. One that was not kept, or that is to fail, is a fault.
@@ -175,6 +197,39 @@ fn copy_from(bytes: &[u8], place: u64, into: &mut [u8]) -> usize
 mod tests {
     use super::*;
     use std::test::Fail;
+
+    #[test]
+    fn a_crash_after_each_call(rt: HostRuntime) -> Result<(), Fail> {
+        let alloc = rt.alloc();
+        let fails = vec![in alloc; 4u64]?;
+        let mut disk = MemDisk::new(alloc, b"abcd".to_vec(alloc)?, fails);
+        assert_eq!(rt; disk.write_at(1, b"xy"), Ok(()));
+        assert_eq!(rt; disk.write_at(6, b"z"), Ok(()));
+        assert_eq!(rt; disk.size(), Ok(7));
+        assert_eq!(rt; disk.sync(), Ok(()));
+        assert_eq!(rt; disk.write_at(0, b"12"), Err(Failed));
+        assert_eq!(rt; disk.calls(), 5);
+
+        let images: [(u64, [&[u8]; 3]); 6] = [
+            (0, [b"abcd", b"abcd", b"abcd"]),
+            (1, [b"abcd", b"axyd", b"a99d"]),
+            (2, [b"abcd", b"axyd\0\0z", b"a99d\0\09"]),
+            (3, [b"abcd", b"axyd\0\0z", b"a99d\0\09"]),
+            (4, [b"axyd\0\0z", b"axyd\0\0z", b"axyd\0\0z"]),
+            (9, [b"axyd\0\0z", b"1xyd\0\0z", b"99yd\0\0z"]),
+        ];
+        for (call, [old, new, nines]) in images {
+            for (fill, image) in [
+                (Fill::Old, old),
+                (Fill::New, new),
+                (Fill::Byte(b'9'), nines),
+            ] {
+                let left = disk.crash(alloc, call, fill)?;
+                assert_eq!(rt; left.as_slice(), image, "{fill:?} after {call}");
+            }
+        }
+        Ok(())
+    }
 
     #[test]
     fn calls_in_turn(rt: HostRuntime) -> Result<(), Fail> {
