@@ -1,7 +1,7 @@
 // The canonical head.
 ghost use Rattle.std.specs.Prelude.{◌≡◌, ℕ, ◌≤◌, nat_le, IfOk, filter};
 ghost use Rattle.std.specs.Option.{ForSome};
-ghost use Rattle.commit_graph.specs.Faults.{HasCause};
+ghost use Rattle.commit_graph.specs.Faults.{KeepsObjects};
 ghost use Rattle.commit_graph.specs.Objects.{ObjectMap};
 ghost use Rattle.canonical_head.specs.Heads.{IsHead};
 ghost use Rattle.canonical_head.specs.Divergence.{IsDivergence, rivaled_in, rivals_in};
@@ -151,9 +151,7 @@ pub fn head<O: Objects>(
     ensures told { ForSome (O.content objects.old)
         (λ m. IfOk result (IsHead m tips.now threshold)) }
     ensures branch { IfOk result (λ head. head ≡ Head.NoBranch → ⊥) }
-    ensures kept { O.content objects.new ≡ O.content objects.old }
-    ensures beside { O.beside objects.new ≡ O.beside objects.old }
-    ensures cause { HasCause (O.content objects.old) (O.faults objects.old) (O.faults objects.new)
+    ensures keeps { KeepsObjects O.content O.beside O.places O.faults Some objects.old objects.new
         result }
 {
     let table = table_of(alloc, objects, tips)?;

@@ -4,7 +4,7 @@ ghost use Rattle.std.specs.Prelude.{Contains};
 ghost use Rattle.std.specs.Option.{ForSome};
 ghost use Rattle.std.specs.BTreeSet.{contains};
 ghost use Rattle.rad_base.specs.Order.{oid_cmp};
-ghost use Rattle.commit_graph.specs.Faults.{HasCause};
+ghost use Rattle.commit_graph.specs.Faults.{KeepsObjects};
 ghost use Rattle.commit_graph.specs.Histories.{HasCommit};
 ghost use Rattle.canonical_head.specs.Tables.{tells, AreRows, IsTable};
 
@@ -55,9 +55,7 @@ fn add_row<O: Objects>(
 ) -> Result<(), GetFault>
     ensures told { ForSome (O.content objects.old) (λ m. OnOk result ((news : List Oid)
         → AreRows m tips.now news rows.old → AreRows m tips.now (news ++ tip.now ∷ []) rows.new)) }
-    ensures kept { O.content objects.new ≡ O.content objects.old }
-    ensures beside { O.beside objects.new ≡ O.beside objects.old }
-    ensures cause { HasCause (O.content objects.old) (O.faults objects.old) (O.faults objects.new)
+    ensures keeps { KeepsObjects O.content O.beside O.places O.faults Some objects.old objects.new
         result }
 {
     if rows.contains_key(tip) {
@@ -76,9 +74,7 @@ pub(crate) fn table_of<O: Objects>(
     tips: &[Oid],
 ) -> Result<Table, GetFault>
     ensures told { ForSome (O.content objects.old) (λ m. IfOk result (IsTable m tips.now)) }
-    ensures kept { O.content objects.new ≡ O.content objects.old }
-    ensures beside { O.beside objects.new ≡ O.beside objects.old }
-    ensures cause { HasCause (O.content objects.old) (O.faults objects.old) (O.faults objects.new)
+    ensures keeps { KeepsObjects O.content O.beside O.places O.faults Some objects.old objects.new
         result }
 {
     let mut rows = BTreeMap::new(alloc);

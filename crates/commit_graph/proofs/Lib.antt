@@ -1,7 +1,6 @@
 pub mod Adding
 pub mod BeyondTurns
 pub mod BeyondWalks
-pub mod Causes
 pub mod ChainLines
 pub mod ClosureTurns
 pub mod FactsHold

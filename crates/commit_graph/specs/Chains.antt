@@ -1,14 +1,14 @@
 -- Commits that have one parent each.
-use Rattle.std.specs.Prelude.{◌≡◌, ℕ, ◌≤◌, List, [], ◌∷◌, length, map, filter, Contains, Some, Option, Result, IfErr}
+use Rattle.std.specs.Prelude.{◌≡◌, ℕ, ◌≤◌, List, [], ◌∷◌, length, map, filter, Contains, Option, Some, None}
 use Rattle.rad_base.specs.Lists.{AllDiffer}
 use Rattle.rad_base.specs.declared.names.Oid.{Oid}
 use Rattle.git_object.specs.declared.kind.Kind.TheVariants.{Commit}
 use Rattle.git_object.specs.declared.link.LinkTo.{LinkTo}
 use Rattle.git_object.specs.Links.{links, IsWellFormed}
+use Rattle.commit_graph.specs.declared.fault.GetFault.{GetFault}
 use Rattle.commit_graph.specs.declared.chains.ChainFault.{ChainFault}
 use Rattle.commit_graph.specs.declared.chains.ChainFault.TheVariants.{TwoParents, NoRoot, Get}
 use Rattle.commit_graph.specs.Objects.{ObjectMap}
-use Rattle.commit_graph.specs.Faults.{IsCause}
 use Rattle.commit_graph.specs.Pairs.{is_commit_link}
 use Rattle.commit_graph.specs.Walks.{Walk}
 
@@ -58,13 +58,8 @@ IsChainFault objects tip (TwoParents oid) = IsFork objects tip oid
 IsChainFault objects tip (NoRoot oid) = IsReturn objects tip oid
 IsChainFault objects tip (Get why) = Unit {0}
 
--- the cause of a fault that a look-up met
-abbrev pub IsGetCause : Option ObjectMap → ℕ → ℕ → ChainFault → Type 0
-IsGetCause content before now (TwoParents oid) = Unit {0}
-IsGetCause content before now (NoRoot oid) = Unit {0}
-IsGetCause content before now (Get why) = IsCause content before now why
-
--- the count of faults never falls, and a fault that a look-up met has its cause
-pub record HasGetCause {T : Type 0} (content : Option ObjectMap) (before now : ℕ) (result : Result T ChainFault) : Type 0 where
-  pub later : before ≤ now
-  pub cause : IfErr result (IsGetCause content before now)
+-- the fault of objects that a refusal is
+abbrev pub fault_in : ChainFault → Option GetFault
+fault_in (TwoParents oid) = None
+fault_in (NoRoot oid) = None
+fault_in (Get why) = Some why

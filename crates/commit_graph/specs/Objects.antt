@@ -21,3 +21,12 @@ shown (Some found) = Some (found.0, found.1.now)
 -- each object of the map has its name
 abbrev pub IsNamed : ObjectMap → Type 0
 IsNamed objects = (oid : Oid) (object : Object) → objects oid ≡ Some object → name object.0 object.1 ≡ oid
+
+-- what `get` hands out, if anything, has the name
+abbrev pub IsFoundAs : Oid → Option (Kind × Bor (List ℕ)) → Type 0
+IsFoundAs oid None = Unit {0}
+IsFoundAs oid (Some found) = name found.0 found.1.now ≡ oid
+
+-- objects were added, and none replaced
+abbrev pub Grows : ObjectMap → ObjectMap → Type 0
+Grows old new = (oid : Oid) (object : Object) → old oid ≡ Some object → new oid ≡ Some object

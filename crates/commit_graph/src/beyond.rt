@@ -2,7 +2,7 @@
 ghost use Rattle.std.specs.Prelude.{◌≡◌, ◌≤◌, ◌+◌, ◌*◌, ◌++◌, ◌↔◌, ◌⊎◌, List, length, map, sum_by};
 ghost use Rattle.std.specs.Prelude.{Contains, IsTrue, IfOk, IfErr, OnOk};
 ghost use Rattle.std.specs.Option.{ForSome};
-ghost use Rattle.commit_graph.specs.Faults.{HasCause, IsAskedFor};
+ghost use Rattle.commit_graph.specs.Faults.{IsAskedFor, KeepsObjects};
 ghost use Rattle.commit_graph.specs.Pairs.{pair_of};
 ghost use Rattle.commit_graph.specs.Walks.{Reached};
 ghost use Rattle.commit_graph.specs.Closures.{IsClosure};
@@ -28,12 +28,10 @@ use std::sync::ledger::Ledger;
 fn is_accepted<O: Objects>(objects: &mut O, pair: Root) -> Result<bool, GetFault>
     ensures told { ForSome (O.content objects.old)
         (λ m. IfOk result (λ is. IsTrue is ↔ IsAccepted m pair)) }
-    ensures kept { O.content objects.new ≡ O.content objects.old }
-    ensures beside { O.beside objects.new ≡ O.beside objects.old }
+    ensures keeps { KeepsObjects O.content O.beside O.places O.faults Some objects.old objects.new
+        result }
     ensures looked { O.looks objects.new ≤ O.looks objects.old + 1 }
     ensures asked { IfErr result (IsAskedFor pair.oid) }
-    ensures cause { HasCause (O.content objects.old) (O.faults objects.old) (O.faults objects.new)
-        result }
 {
     match objects.get(&pair.oid) {
         Err(fault) => Err(fault),
@@ -54,11 +52,9 @@ fn test_pair<O: Objects, L: Ledger>(
 ) -> Result<Looked, GetFault>
     ensures told { ForSome (O.content objects.old) (λ m. IfOk result
         (λ looked. IsTested m known.now pair facts.old facts.new looked steps.old steps.new)) }
-    ensures kept { O.content objects.new ≡ O.content objects.old }
-    ensures beside { O.beside objects.new ≡ O.beside objects.old }
-    ensures looked { O.looks objects.new + steps.old ≤ O.looks objects.old + steps.new }
-    ensures cause { HasCause (O.content objects.old) (O.faults objects.old) (O.faults objects.new)
+    ensures keeps { KeepsObjects O.content O.beside O.places O.faults Some objects.old objects.new
         result }
+    ensures looked { O.looks objects.new + steps.old ≤ O.looks objects.old + steps.new }
     ensures cost { steps.new ≤ steps.old + 2 }
     ensures counted { steps.old ≤ steps.new }
 {
@@ -114,11 +110,9 @@ fn search<O: Objects, L: Ledger>(
     ensures cost { ForSome (O.content objects.old) (λ m. (names fit : List Oid)
         → CoversBeyond m known.now roots.now names → CoversFitBeyond m known.now roots.now fit
         → steps.new ≤ steps.old + length names + sum_by (link_count m) fit + 2 * length roots.now) }
-    ensures kept { O.content objects.new ≡ O.content objects.old }
-    ensures beside { O.beside objects.new ≡ O.beside objects.old }
-    ensures looked { O.looks objects.new + steps.old ≤ O.looks objects.old + steps.new }
-    ensures cause { HasCause (O.content objects.old) (O.faults objects.old) (O.faults objects.new)
+    ensures keeps { KeepsObjects O.content O.beside O.places O.faults Some objects.old objects.new
         result }
+    ensures looked { O.looks objects.new + steps.old ≤ O.looks objects.old + steps.new }
 {
     let mut facts = Facts::new(alloc);
     let mut queue = Vec::from_slice(alloc, roots)?;
@@ -169,11 +163,9 @@ pub fn closure_beyond<O: Objects, L: Ledger>(
     ensures cost { ForSome (O.content objects.old) (λ m. (names fit : List Oid)
         → CoversBeyond m known.old roots.now names → CoversFitBeyond m known.old roots.now fit
         → steps.new ≤ steps.old + length names + sum_by (link_count m) fit + 2 * length roots.now) }
-    ensures kept { O.content objects.new ≡ O.content objects.old }
-    ensures beside { O.beside objects.new ≡ O.beside objects.old }
-    ensures looked { O.looks objects.new + steps.old ≤ O.looks objects.old + steps.new }
-    ensures cause { HasCause (O.content objects.old) (O.faults objects.old) (O.faults objects.new)
+    ensures keeps { KeepsObjects O.content O.beside O.places O.faults Some objects.old objects.new
         result }
+    ensures looked { O.looks objects.new + steps.old ≤ O.looks objects.old + steps.new }
 {
     let found = search(alloc, objects, known, roots, steps)?;
     if let Closure::Closed = found.answer {

@@ -2,12 +2,12 @@
 ghost use Rattle.std.specs.Prelude.{◌≡◌, ◌≤◌, ◌+◌, ◌∷◌, [], List, length, IfOk, IfErr};
 ghost use Rattle.std.specs.Prelude.{map, reverse};
 ghost use Rattle.std.specs.Option.{ForSome};
-ghost use Rattle.commit_graph.specs.Faults.{HasCause};
+ghost use Rattle.commit_graph.specs.Faults.{KeepsObjects};
 ghost use Rattle.commit_graph.specs.Pairs.{as_commit, oid_of};
 ghost use Rattle.commit_graph.specs.Closures.{IsClosed};
 ghost use Rattle.commit_graph.specs.Histories.{CoversHistory};
 ghost use Rattle.commit_graph.specs.Chains.{parents_in, HasParents, IsChain, IsChainFault};
-ghost use Rattle.commit_graph.specs.Chains.{HasGetCause};
+ghost use Rattle.commit_graph.specs.Chains.{fault_in};
 
 use crate::answer::Chain;
 use crate::look::{Looked, look};
@@ -68,11 +68,9 @@ fn parents_among(alloc: Global, links: &[LinkTo]) -> Result<Vec<Oid>, AllocError
 fn parents_at<O: Objects>(alloc: Global, objects: &mut O, oid: Oid) -> Result<Vec<Oid>, GetFault>
     ensures told { ForSome (O.content objects.old) (λ m. IfOk result (λ parents. (each : List Oid)
         → HasParents m oid each → each ≡ parents.items)) }
-    ensures kept { O.content objects.new ≡ O.content objects.old }
-    ensures beside { O.beside objects.new ≡ O.beside objects.old }
-    ensures looked { O.looks objects.new ≤ O.looks objects.old + 1 }
-    ensures cause { HasCause (O.content objects.old) (O.faults objects.old) (O.faults objects.new)
+    ensures keeps { KeepsObjects O.content O.beside O.places O.faults Some objects.old objects.new
         result }
+    ensures looked { O.looks objects.new ≤ O.looks objects.old + 1 }
 {
     match look(alloc, objects, commit(oid))? {
         Looked::Fit(links) => Ok(parents_among(alloc, links.as_slice())?),
@@ -97,13 +95,11 @@ pub fn chain<O: Objects>(alloc: Global, objects: &mut O, tip: &Oid) -> Result<Ch
     ensures told { ForSome (O.content objects.old)
         (λ m. IfOk result (λ chain. IsChain m chain tip.now)) }
     ensures refused { ForSome (O.content objects.old) (λ m. IfErr result (IsChainFault m tip.now)) }
-    ensures kept { O.content objects.new ≡ O.content objects.old }
-    ensures beside { O.beside objects.new ≡ O.beside objects.old }
+    ensures keeps { KeepsObjects O.content O.beside O.places O.faults fault_in objects.old objects.new
+        result }
     ensures looked { ForSome (O.content objects.old) (λ m. (commits : List Oid)
         → CoversHistory m tip.now commits
         → O.looks objects.new ≤ O.looks objects.old + length commits) }
-    ensures cause { HasGetCause (O.content objects.old) (O.faults objects.old)
-        (O.faults objects.new) result }
 {
     let mut line = Visited::new(alloc);
     let mut oid = *tip;

@@ -1,7 +1,7 @@
 // Whether all that some roots reach is there and well formed.
 ghost use Rattle.std.specs.Prelude.{◌≡◌, ◌≤◌, ◌+◌, List, length, IfOk};
 ghost use Rattle.std.specs.Option.{ForSome};
-ghost use Rattle.commit_graph.specs.Faults.{HasCause};
+ghost use Rattle.commit_graph.specs.Faults.{KeepsObjects};
 ghost use Rattle.commit_graph.specs.Closures.{CoversReached, IsClosure};
 ghost use Rattle.commit_graph.specs.Looks.{IsLesser, answer_of};
 
@@ -47,13 +47,11 @@ pub fn closure<O: Objects>(
     roots: &[Root],
 ) -> Result<Closure, GetFault>
     ensures told { ForSome (O.content objects.old) (λ m. IfOk result (IsClosure m roots.now)) }
-    ensures kept { O.content objects.new ≡ O.content objects.old }
-    ensures beside { O.beside objects.new ≡ O.beside objects.old }
+    ensures keeps { KeepsObjects O.content O.beside O.places O.faults Some objects.old objects.new
+        result }
     ensures looked { ForSome (O.content objects.old) (λ m. (pairs : List Root)
         → CoversReached m roots.now pairs
         → O.looks objects.new ≤ O.looks objects.old + length pairs) }
-    ensures cause { HasCause (O.content objects.old) (O.faults objects.old) (O.faults objects.new)
-        result }
 {
     let mut found = Visited::new(alloc);
     found.extend(roots)?;

@@ -3,7 +3,7 @@ ghost use Rattle.std.specs.Prelude.{◌≡◌, ◌≤◌, ◌+◌, [], IfOk, Non
 ghost use Rattle.std.specs.BTreeMap.{is_at};
 ghost use Rattle.std.specs.Option.{ForSome, unwrap_or};
 ghost use Rattle.rad_base.specs.Order.{oid_cmp};
-ghost use Rattle.commit_graph.specs.Faults.{HasCause};
+ghost use Rattle.commit_graph.specs.Faults.{KeepsObjects};
 ghost use Rattle.commit_graph.specs.Facts.{IsLearned, fact_in, waiting_in};
 
 use crate::look::{Looked, read};
@@ -51,11 +51,9 @@ impl Facts {
     ) -> Result<Fact, GetFault>
         ensures told { ForSome (O.content objects.old) (λ m. IfOk result
             (λ fact. IsLearned m oid self.old self.new fact steps.old steps.new)) }
-        ensures kept { O.content objects.new ≡ O.content objects.old }
-        ensures beside { O.beside objects.new ≡ O.beside objects.old }
+        ensures keeps { KeepsObjects O.content O.beside O.places O.faults Some objects.old objects.new
+            result }
         ensures looked { O.looks objects.new + steps.old ≤ O.looks objects.old + steps.new }
-        ensures cause { HasCause (O.content objects.old) (O.faults objects.old)
-            (O.faults objects.new) result }
         ensures cost { steps.new ≤ steps.old + 1 }
         ensures counted { steps.old ≤ steps.new }
     {

@@ -1,5 +1,5 @@
 // Objects in memory that count their look-ups and come to fail.
-ghost use Rattle.std.specs.Prelude.{◌≡◌, ◌≤◌, None};
+ghost use Rattle.std.specs.Prelude.{◌≡◌, ◌≤◌, None, Some};
 ghost use Rattle.commit_graph.specs.Faults.{IsAskedFor, IsCause};
 
 use crate::{Changed, GetFault, MemObjects, Objects};
@@ -18,7 +18,7 @@ pub enum Failure {
 // The fault of a look-up of a name. That of the empty blob itself fails as a disk does.
 fn fault_of(failure: Failure, oid: &Oid, faults: &mut u64) -> GetFault
     ensures later { faults.old ≤ faults.new }
-    ensures cause { IsCause None faults.old faults.new result }
+    ensures cause { IsCause None (λ _. Some 0) faults.old faults.new result }
     ensures asked { IsAskedFor oid.now result }
 {
     let found = name_of(Kind::Blob, b"");
@@ -36,7 +36,8 @@ fn fault_of(failure: Failure, oid: &Oid, faults: &mut u64) -> GetFault
 }
 
 /// Objects in memory that count their look-ups, of which all behind a number fail, as those of a
-/// disk may. It tells no content: contracts see of it what they see of objects in a file.
+/// disk may. It tells no content, and all of it stands at place 0: contracts see of it what they
+/// see of objects in a file.
 #[derive(Drop)]
 pub struct FailingObjects<'a> {
     objects: &'a MemObjects,
@@ -82,6 +83,7 @@ impl<'a> FailingObjects<'a> {
 }
 
 impl Objects for FailingObjects<'_> {
+    ghost use Rattle.std.specs.Prelude.{Some};
     ghost use Rattle.std.proofs.Common.{rules};
     ghost use Rattle.commit_graph.specs.FailingObjects.{looks_of};
 
@@ -95,6 +97,8 @@ impl Objects for FailingObjects<'_> {
 
     ghost beside = { λ _. tt };
 
+    ghost places = { λ _ _. Some 0 };
+
     fn get(&mut self, oid: &Oid) -> Result<Option<(Kind, &[u8])>, GetFault> {
         let fails = self.looks >= self.answers;
         self.looks = self.looks.saturating_add(1);
@@ -103,10 +107,7 @@ impl Objects for FailingObjects<'_> {
             self.fault = Some(fault);
             return Err(fault);
         }
-        match self.objects.held.get(oid) {
-            None => Ok(None),
-            Some(held) => Ok(Some((held.kind, held.bytes.as_slice()))),
-        }
+        Ok(self.objects.object(oid))
     }
 
     ghost named = { Prim.search rules };

@@ -1,7 +1,7 @@
 // One step of a walk.
 ghost use Rattle.std.specs.Prelude.{◌≡◌, ◌≤◌, ◌+◌, OnOk};
 ghost use Rattle.std.specs.Option.{ForSome};
-ghost use Rattle.commit_graph.specs.Faults.{HasCause};
+ghost use Rattle.commit_graph.specs.Faults.{KeepsObjects};
 ghost use Rattle.commit_graph.specs.Lists.{Follows};
 ghost use Rattle.commit_graph.specs.Pairs.{IsLink};
 ghost use Rattle.commit_graph.specs.Histories.{IsParent};
@@ -20,11 +20,9 @@ pub(crate) fn follow_links<O: Objects>(
 ) -> Result<(), GetFault>
     ensures told { ForSome (O.content objects.old)
         (λ m. OnOk result (Follows (IsLink m) pair found.old found.new)) }
-    ensures kept { O.content objects.new ≡ O.content objects.old }
-    ensures beside { O.beside objects.new ≡ O.beside objects.old }
-    ensures looked { O.looks objects.new ≤ O.looks objects.old + 1 }
-    ensures cause { HasCause (O.content objects.old) (O.faults objects.old) (O.faults objects.new)
+    ensures keeps { KeepsObjects O.content O.beside O.places O.faults Some objects.old objects.new
         result }
+    ensures looked { O.looks objects.new ≤ O.looks objects.old + 1 }
 {
     match look(alloc, objects, pair)? {
         Looked::Fit(links) => Ok(found.follow(links.as_slice())?),
@@ -41,11 +39,9 @@ pub(crate) fn follow_parents<O: Objects>(
 ) -> Result<(), GetFault>
     ensures told { ForSome (O.content objects.old)
         (λ m. OnOk result (Follows (IsParent m) pair found.old found.new)) }
-    ensures kept { O.content objects.new ≡ O.content objects.old }
-    ensures beside { O.beside objects.new ≡ O.beside objects.old }
-    ensures looked { O.looks objects.new ≤ O.looks objects.old + 1 }
-    ensures cause { HasCause (O.content objects.old) (O.faults objects.old) (O.faults objects.new)
+    ensures keeps { KeepsObjects O.content O.beside O.places O.faults Some objects.old objects.new
         result }
+    ensures looked { O.looks objects.new ≤ O.looks objects.old + 1 }
 {
     match look(alloc, objects, pair)? {
         Looked::Fit(links) => Ok(found.follow_commits(links.as_slice())?),

@@ -1,7 +1,7 @@
 // The history of a commit.
 ghost use Rattle.std.specs.Prelude.{◌≡◌, ◌≤◌, ◌+◌, ◌↔◌, List, length, IsTrue, IfOk};
 ghost use Rattle.std.specs.Option.{ForSome};
-ghost use Rattle.commit_graph.specs.Faults.{HasCause};
+ghost use Rattle.commit_graph.specs.Faults.{KeepsObjects};
 ghost use Rattle.commit_graph.specs.Histories.{InHistory, CoversHistory, HasCommit};
 
 use crate::follow::follow_parents;
@@ -23,13 +23,11 @@ pub fn in_history<O: Objects>(
 ) -> Result<bool, GetFault>
     ensures told { ForSome (O.content objects.old) (λ m. IfOk result (λ is. IsTrue is
         ↔ InHistory m old.now new.now)) }
-    ensures kept { O.content objects.new ≡ O.content objects.old }
-    ensures beside { O.beside objects.new ≡ O.beside objects.old }
+    ensures keeps { KeepsObjects O.content O.beside O.places O.faults Some objects.old objects.new
+        result }
     ensures looked { ForSome (O.content objects.old) (λ m. (commits : List Oid)
         → CoversHistory m new.now commits
         → O.looks objects.new ≤ O.looks objects.old + length commits) }
-    ensures cause { HasCause (O.content objects.old) (O.faults objects.old) (O.faults objects.new)
-        result }
 {
     let mut found = Visited::new(alloc);
     found.add(commit(*new))?;
@@ -78,13 +76,11 @@ pub fn history_of<O: Objects>(
 ) -> Result<History, GetFault>
     ensures told { ForSome (O.content objects.old) (λ m. IfOk result (λ history. (old : Oid)
         → HasCommit history old ↔ InHistory m old new.now)) }
-    ensures kept { O.content objects.new ≡ O.content objects.old }
-    ensures beside { O.beside objects.new ≡ O.beside objects.old }
+    ensures keeps { KeepsObjects O.content O.beside O.places O.faults Some objects.old objects.new
+        result }
     ensures looked { ForSome (O.content objects.old) (λ m. (commits : List Oid)
         → CoversHistory m new.now commits
         → O.looks objects.new ≤ O.looks objects.old + length commits) }
-    ensures cause { HasCause (O.content objects.old) (O.faults objects.old) (O.faults objects.new)
-        result }
 {
     let mut found = Visited::new(alloc);
     found.add(commit(*new))?;

@@ -1,7 +1,7 @@
 // One look at a pair.
 ghost use Rattle.std.specs.Prelude.{◌≡◌, ◌≤◌, ◌+◌, IfOk, IfErr};
 ghost use Rattle.std.specs.Option.{ForSome};
-ghost use Rattle.commit_graph.specs.Faults.{HasCause, IsAskedFor};
+ghost use Rattle.commit_graph.specs.Faults.{IsAskedFor, KeepsObjects};
 ghost use Rattle.commit_graph.specs.Looks.{Reads, Shows};
 
 use crate::root::is_expected;
@@ -36,12 +36,10 @@ pub(crate) fn look<O: Objects>(
     pair: Root,
 ) -> Result<Looked, GetFault>
     ensures told { ForSome (O.content objects.old) (λ m. IfOk result (Shows m pair)) }
-    ensures kept { O.content objects.new ≡ O.content objects.old }
-    ensures beside { O.beside objects.new ≡ O.beside objects.old }
+    ensures keeps { KeepsObjects O.content O.beside O.places O.faults Some objects.old objects.new
+        result }
     ensures looked { O.looks objects.new ≤ O.looks objects.old + 1 }
     ensures asked { IfErr result (IsAskedFor pair.oid) }
-    ensures cause { HasCause (O.content objects.old) (O.faults objects.old) (O.faults objects.new)
-        result }
 {
     match objects.get(&pair.oid) {
         Err(fault) => Err(fault),

@@ -20,6 +20,7 @@ pub struct MemObjects {
 impl MemObjects {
     ghost use Rattle.std.specs.Prelude.{◌≡◌, IfOk, OnErr, None};
     ghost use Rattle.commit_graph.specs.Memory.{AddsObject};
+    ghost use Rattle.commit_graph.specs.Objects.{IsFoundAs, shown};
     ghost use Rattle.commit_graph.specs.InMemory.{objects_of};
 
     /// No object. It takes no memory.
@@ -42,10 +43,21 @@ impl MemObjects {
     {
         hold(&mut self.held, alloc, kind, bytes)
     }
+
+    /// The kind and the content of the object of a name, lent; `None` where there is none.
+    pub fn object(&self, oid: &Oid) -> Option<(Kind, &[u8])>
+        ensures found { shown result ≡ objects_of self.now oid.now }
+        ensures named { IsFoundAs oid.now result }
+    {
+        match self.held.get(oid) {
+            None => None,
+            Some(held) => Some((held.kind, held.bytes.as_slice())),
+        }
+    }
 }
 
 impl Objects for MemObjects {
-    ghost use Rattle.std.specs.Prelude.{Some};
+    ghost use Rattle.std.specs.Prelude.{None, Some};
     ghost use Rattle.std.proofs.Common.{rules};
     ghost use Rattle.commit_graph.specs.InMemory.{objects_of};
 
@@ -59,18 +71,17 @@ impl Objects for MemObjects {
 
     ghost beside = { λ _. tt };
 
+    ghost places = { λ _ _. None };
+
     fn get(&mut self, oid: &Oid) -> Result<Option<(Kind, &[u8])>, GetFault> {
-        match self.held.get(oid) {
-            None => Ok(None),
-            Some(held) => Ok(Some((held.kind, held.bytes.as_slice()))),
-        }
+        Ok(self.object(oid))
     }
 
     ghost named = { Prim.search rules };
 }
 
 impl Objects for &MemObjects {
-    ghost use Rattle.std.specs.Prelude.{Some};
+    ghost use Rattle.std.specs.Prelude.{None, Some};
     ghost use Rattle.std.proofs.Common.{rules};
     ghost use Rattle.commit_graph.specs.InMemory.{objects_of};
 
@@ -84,11 +95,10 @@ impl Objects for &MemObjects {
 
     ghost beside = { λ _. tt };
 
+    ghost places = { λ _ _. None };
+
     fn get(&mut self, oid: &Oid) -> Result<Option<(Kind, &[u8])>, GetFault> {
-        match self.held.get(oid) {
-            None => Ok(None),
-            Some(held) => Ok(Some((held.kind, held.bytes.as_slice()))),
-        }
+        Ok(self.object(oid))
     }
 
     ghost named = { Prim.search rules };

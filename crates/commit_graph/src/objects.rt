@@ -1,10 +1,10 @@
 // Objects by name.
-ghost use Rattle.std.specs.Prelude.{◌≡◌, ℕ, ◌≤◌, ◌+◌, Option, IfOk, IfErr};
+ghost use Rattle.std.specs.Prelude.{◌≡◌, ℕ, ◌≤◌, ◌+◌, Option, Some, IfOk, IfErr};
 ghost use Rattle.std.specs.Borrow.{sem};
 ghost use Rattle.std.specs.Io.BufRead.{Rests};
 ghost use Rattle.std.specs.Option.{ForSome};
-ghost use Rattle.commit_graph.specs.Objects.{ObjectMap, IsNamed, shown};
-ghost use Rattle.commit_graph.specs.Faults.{IsAskedFor, IsCause};
+ghost use Rattle.commit_graph.specs.Objects.{ObjectMap, IsFoundAs, IsNamed, shown};
+ghost use Rattle.commit_graph.specs.Faults.{IsAskedFor, KeepsObjects, Places};
 
 use crate::GetFault;
 use git_object::Kind;
@@ -27,21 +27,25 @@ pub trait Objects {
     /// What else there is that no call changes.
     ghost beside: { Self → Beside };
 
+    /// Where the object of a name stands, in bytes from 0, if it stands at a place; what no call
+    /// changes tells it.
+    ghost places: { Beside → Places };
+
     /// The kind and the content of the object of a name; `None` where there is none.
     ///
-    /// No call changes the objects, also where it is refused. `DiskFault` comes only where the
-    /// count of faults rose; `Changed` only where the bytes read back have another name than the
-    /// one asked for, and never where the objects are told. `NoMemory` can come at any time. A call
-    /// is one look-up.
+    /// What it hands out has the name that was asked for. No call changes the objects, also where
+    /// it is refused. `DiskFault` comes only where the count of faults rose, and the count stands
+    /// still at every other answer. `Changed` comes only where the bytes read back at the place of
+    /// the object have another name than the one asked for, and never where the objects are told.
+    /// `NoMemory` can come at any time. A call is one look-up.
     fn get(&mut self, oid: &Oid) -> Result<Option<(Kind, &[u8])>, GetFault>
         ensures found { ForSome (content self.old)
             (λ m. IfOk result (λ found. shown found ≡ m oid.now)) }
+        ensures named { IfOk result (IsFoundAs oid.now) }
         ensures asked { IfErr result (IsAskedFor oid.now) }
-        ensures* kept { sem 𝓛 (Rests Self.row self.entry (λ new. (content new ≡ content self.old)
-            × (beside new ≡ beside self.old)
-            × (faults self.old ≤ faults new)
-            × (looks new ≤ looks self.old + 1)
-            × IfErr result (IsCause (content self.old) (faults self.old) (faults new)))) };
+        ensures* keeps { sem 𝓛 (Rests Self.row self.entry (λ new.
+            KeepsObjects content beside places faults Some self.old new result
+            × (looks new ≤ looks self.old + 1))) };
 
     /// Each object that is told has its name.
     ghost named: { (objects : Self) → ForSome (content objects) IsNamed };

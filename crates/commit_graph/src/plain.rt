@@ -2,7 +2,7 @@
 ghost use Rattle.std.specs.Prelude.{◌≡◌, ◌<◌, ◌↔◌, IfOk, OnOk, Some, Contains, length, slice_get};
 ghost use Rattle.std.specs.Prelude.{map};
 ghost use Rattle.std.specs.Option.{ForSome};
-ghost use Rattle.commit_graph.specs.Faults.{HasCause};
+ghost use Rattle.commit_graph.specs.Faults.{KeepsObjects};
 ghost use Rattle.commit_graph.specs.Lists.{Adds, Extends, Follows};
 ghost use Rattle.commit_graph.specs.Pairs.{IsLink, pair_of};
 ghost use Rattle.commit_graph.specs.Closures.{IsClosure, IsReached};
@@ -44,9 +44,7 @@ fn add_links_of<O: Objects>(
 ) -> Result<(), GetFault>
     ensures told { ForSome (O.content objects.old)
         (λ m. OnOk result (Follows (IsLink m) pair list.old.items list.new.items)) }
-    ensures kept { O.content objects.new ≡ O.content objects.old }
-    ensures beside { O.beside objects.new ≡ O.beside objects.old }
-    ensures cause { HasCause (O.content objects.old) (O.faults objects.old) (O.faults objects.new)
+    ensures keeps { KeepsObjects O.content O.beside O.places O.faults Some objects.old objects.new
         result }
 {
     match look(alloc, objects, pair)? {
@@ -70,9 +68,7 @@ fn reached_pairs<O: Objects>(
 ) -> Result<Vec<Root>, GetFault>
     ensures told { ForSome (O.content objects.old) (λ m. IfOk result (λ list. (pair : Root)
         → Contains list.items pair ↔ IsReached m roots.now pair)) }
-    ensures kept { O.content objects.new ≡ O.content objects.old }
-    ensures beside { O.beside objects.new ≡ O.beside objects.old }
-    ensures cause { HasCause (O.content objects.old) (O.faults objects.old) (O.faults objects.new)
+    ensures keeps { KeepsObjects O.content O.beside O.places O.faults Some objects.old objects.new
         result }
 {
     let mut list = Vec::from_slice(alloc, roots)?;
@@ -94,9 +90,7 @@ pub fn closure_by_lists<O: Objects>(
     roots: &[Root],
 ) -> Result<Closure, GetFault>
     ensures told { ForSome (O.content objects.old) (λ m. IfOk result (IsClosure m roots.now)) }
-    ensures kept { O.content objects.new ≡ O.content objects.old }
-    ensures beside { O.beside objects.new ≡ O.beside objects.old }
-    ensures cause { HasCause (O.content objects.old) (O.faults objects.old) (O.faults objects.new)
+    ensures keeps { KeepsObjects O.content O.beside O.places O.faults Some objects.old objects.new
         result }
 {
     let pairs = reached_pairs(alloc, objects, roots)?;

@@ -5,7 +5,7 @@ ghost use Rattle.std.specs.Option.{ForSome};
 ghost use Rattle.std.specs.List.Sorted.{IsStrictlySortedBy};
 ghost use Rattle.std.specs.BTreeSet.{contains, IsOrdered};
 ghost use Rattle.rad_base.specs.Order.{oid_cmp};
-ghost use Rattle.commit_graph.specs.Faults.{HasCause};
+ghost use Rattle.commit_graph.specs.Faults.{KeepsObjects};
 ghost use Rattle.commit_graph.specs.Closures.{IsReached, IsReachedName, HasName, CoversReached};
 
 use crate::follow::follow_links;
@@ -19,13 +19,11 @@ use std::collections::BTreeSet;
 fn walk<O: Objects>(alloc: Global, objects: &mut O, roots: &[Root]) -> Result<Visited, GetFault>
     ensures told { ForSome (O.content objects.old) (λ m. IfOk result (λ found. (pair : Root)
         → Contains found pair ↔ IsReached m roots.now pair)) }
-    ensures kept { O.content objects.new ≡ O.content objects.old }
-    ensures beside { O.beside objects.new ≡ O.beside objects.old }
+    ensures keeps { KeepsObjects O.content O.beside O.places O.faults Some objects.old objects.new
+        result }
     ensures looked { ForSome (O.content objects.old) (λ m. (pairs : List Root)
         → CoversReached m roots.now pairs
         → O.looks objects.new ≤ O.looks objects.old + length pairs) }
-    ensures cause { HasCause (O.content objects.old) (O.faults objects.old) (O.faults objects.new)
-        result }
 {
     let mut found = Visited::new(alloc);
     found.extend(roots)?;
@@ -80,13 +78,11 @@ pub fn reached<O: Objects>(alloc: Global, objects: &mut O, roots: &[Root]) -> Re
     ensures told { ForSome (O.content objects.old)
         (λ m. IfOk result (λ names. (oid : Oid) → Contains names oid
         ↔ IsReachedName m roots.now oid)) }
-    ensures kept { O.content objects.new ≡ O.content objects.old }
-    ensures beside { O.beside objects.new ≡ O.beside objects.old }
+    ensures keeps { KeepsObjects O.content O.beside O.places O.faults Some objects.old objects.new
+        result }
     ensures looked { ForSome (O.content objects.old) (λ m. (pairs : List Root)
         → CoversReached m roots.now pairs
         → O.looks objects.new ≤ O.looks objects.old + length pairs) }
-    ensures cause { HasCause (O.content objects.old) (O.faults objects.old) (O.faults objects.new)
-        result }
 {
     let found = walk(alloc, objects, roots)?;
     let names = names_of(alloc, found.as_slice())?;

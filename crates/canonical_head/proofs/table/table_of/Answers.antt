@@ -9,15 +9,15 @@ pub loop-tip-init : goal.loop-tip-init
 loop-tip-init g c = record {
   kept = refl;
   beside = refl;
-  rising = omega arith;
+  still = refl;
   filled = λ m e. rows_none m c.args.tips.now c.new-rows.result c.new-rows.ensures.empty;
 }
 
 pub loop-tip-preserved : goal.loop-tip-preserved
 loop-tip-preserved g c = record {
-  kept = c.in_ok-add_row.ensures.kept ∙ c.loop-tip.invariant.kept;
-  beside = c.in_ok-add_row.ensures.beside ∙ c.loop-tip.invariant.beside;
-  rising = omega (arith, c.in_ok-add_row.ensures.cause.later, c.loop-tip.invariant.rising);
+  kept = c.in_ok-add_row.ensures.keeps.content ∙ c.loop-tip.invariant.kept;
+  beside = c.in_ok-add_row.ensures.keeps.beside ∙ c.loop-tip.invariant.beside;
+  still = c.in_ok-add_row.ensures.keeps.cause ∙ c.loop-tip.invariant.still;
   filled = λ m e.
       rows_more m c.args.tips.now c.args.tips.now c.loop-tip.tip-index _ c.add_row.new.rows c.loop-tip-test.true
       (c.in_ok-add_row.ensures.told m (c.loop-tip.invariant.kept ∙ e) (take c.loop-tip.tip-index c.args.tips.now) (c.loop-tip.invariant.filled m e));

@@ -1,4 +1,4 @@
-use Rattle.std.proofs.Common.{◌≡◌, ◌≤◌, take}
+use Rattle.std.proofs.Common.{◌≡◌, take}
 use Rattle.std.specs.Option.{ForSome}
 use Rattle.canonical_head.specs.Tables.{AreRows}
 use Rattle.canonical_head.proofs.table.table_of.Given as goal
@@ -11,6 +11,6 @@ invariant-loop-tip g l =
     record {
       kept : content l.objects ≡ content l.fn.objects;
       beside : beside l.objects ≡ beside l.fn.objects;
-      rising : faults l.fn.objects ≤ faults l.objects;
+      still : faults l.objects ≡ faults l.fn.objects;
       filled : ForSome (content l.fn.objects) (λ m. AreRows m l.tips (take l.tip-index l.tips) l.rows);
     }

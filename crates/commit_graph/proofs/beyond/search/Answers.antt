@@ -17,7 +17,7 @@ pub loop-i-init : goal.loop-i-init
 loop-i-init g c = record {
   kept = refl;
   beside = refl;
-  rising = omega arith;
+  still = refl;
   looked = omega arith;
   progress = λ m e. search_start m c.args.known.now c.args.roots.now c.in_ok-queue.queue.items c.new-facts.result c.args.steps.now c.in_ok-queue.ensures.items c.new-facts.ensures.facts c.new-facts.ensures.waiting;
 }
@@ -38,9 +38,9 @@ returns-in_err-append-in-Fit-clause-cost g c = λ m e names fit cover cover_fit.
 
 pub loop-i-preserved : goal.loop-i-preserved
 loop-i-preserved g c = record {
-  kept = c.in_ok-test_pair.ensures.kept ∙ c.loop-i.invariant.kept;
-  beside = c.in_ok-test_pair.ensures.beside ∙ c.loop-i.invariant.beside;
-  rising = omega (arith, c.in_ok-test_pair.ensures.cause.later, c.loop-i.invariant.rising);
+  kept = c.in_ok-test_pair.ensures.keeps.content ∙ c.loop-i.invariant.kept;
+  beside = c.in_ok-test_pair.ensures.keeps.beside ∙ c.loop-i.invariant.beside;
+  still = c.in_ok-test_pair.ensures.keeps.cause ∙ c.loop-i.invariant.still;
   looked = omega (arith, c.in_ok-test_pair.ensures.looked, c.loop-i.invariant.looked);
   progress = λ m e.
       let at : slice_get c.loop-i.queue.items c.loop-i.i ≡ Some c.pair_at-pair.result = subst (λ (xs : List Root). slice_get xs c.loop-i.i ≡ Some c.pair_at-pair.result) c.deref.ensures.value c.pair_at-pair.ensures in

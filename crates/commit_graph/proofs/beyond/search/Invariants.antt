@@ -12,7 +12,7 @@ invariant-loop-i g l =
     record {
       kept : content l.objects ≡ content l.fn.objects;
       beside : beside l.objects ≡ beside l.fn.objects;
-      rising : faults l.fn.objects ≤ faults l.objects;
+      still : faults l.objects ≡ faults l.fn.objects;
       looked : looks l.objects + l.fn.steps ≤ looks l.fn.objects + l.steps;
       progress : ForSome (content l.fn.objects) (λ m. Search m l.known l.roots l.i l.queue.items l.facts l.missing l.unfit l.fn.steps l.steps);
     }

@@ -36,9 +36,9 @@ returns-in_default-clause-refused g c = λ m e.
 
 pub walking-preserved : goal.walking-preserved
 walking-preserved g c = record {
-  kept = c.in_ok-parents.ensures.kept ∙ c.walking.invariant.kept;
-  beside = c.in_ok-parents.ensures.beside ∙ c.walking.invariant.beside;
-  rising = omega (arith, c.in_ok-parents.ensures.cause.later, c.walking.invariant.rising);
+  kept = c.in_ok-parents.ensures.keeps.content ∙ c.walking.invariant.kept;
+  beside = c.in_ok-parents.ensures.keeps.beside ∙ c.walking.invariant.beside;
+  still = c.in_ok-parents.ensures.keeps.cause ∙ c.walking.invariant.still;
   looked = λ m e.
       let lacks : Contains c.walking.line (as_commit c.walking.oid) → ⊥ = not_there c.walking.line c.if-contains.false c.contains.ensures c.commit.ensures in
       let pushed : c.add.new.self ≡ c.walking.line ++ as_commit c.walking.oid ∷ [] = added_new c.in_ok-add.ensures.ok c.commit-in-walking.ensures lacks in

@@ -12,7 +12,7 @@ invariant-walking g l =
     record {
       kept : content l.objects ≡ content l.fn.objects;
       beside : beside l.objects ≡ beside l.fn.objects;
-      rising : faults l.fn.objects ≤ faults l.objects;
+      still : faults l.objects ≡ faults l.fn.objects;
       looked : ForSome (content l.fn.objects) (λ _. looks l.objects ≤ looks l.fn.objects + length l.line);
       line : ForSome (content l.fn.objects) (λ m. Line m l.tip l.line l.oid);
     }

@@ -16,9 +16,9 @@ use Rattle.commit_graph.proofs.closing.closure.Goals.{in-Missing, in-Unfit, in-F
 
 pub loop-i-preserved : goal.loop-i-preserved
 loop-i-preserved g c = record {
-  kept = c.in_ok-look.ensures.kept ∙ c.loop-i.invariant.kept;
-  beside = c.in_ok-look.ensures.beside ∙ c.loop-i.invariant.beside;
-  rising = omega (arith, c.in_ok-look.ensures.cause.later, c.loop-i.invariant.rising);
+  kept = c.in_ok-look.ensures.keeps.content ∙ c.loop-i.invariant.kept;
+  beside = c.in_ok-look.ensures.keeps.beside ∙ c.loop-i.invariant.beside;
+  still = c.in_ok-look.ensures.keeps.cause ∙ c.loop-i.invariant.still;
   looked = λ m e. elim c.match-branch-3.branch [
     | in-Missing w ↦ looks_turn _ _ _ c.loop-i.i c.at-pair.result c.at-pair.ensures (extends_same w.found-is) c.in_ok-look.ensures.looked (c.loop-i.invariant.looked m e)
     | in-Unfit w ↦ looks_turn _ _ _ c.loop-i.i c.at-pair.result c.at-pair.ensures (extends_same w.found-is) c.in_ok-look.ensures.looked (c.loop-i.invariant.looked m e)

@@ -12,7 +12,7 @@ invariant-loop-i g l =
     record {
       kept : content l.objects ≡ content l.fn.objects;
       beside : beside l.objects ≡ beside l.fn.objects;
-      rising : faults l.fn.objects ≤ faults l.objects;
+      still : faults l.objects ≡ faults l.fn.objects;
       looked : ForSome (content l.fn.objects) (λ _. looks l.objects ≤ looks l.fn.objects + length (take l.i l.found));
       progress : ForSome (content l.fn.objects) (λ m. Progress m l.roots l.i l.found l.missing l.unfit);
     }

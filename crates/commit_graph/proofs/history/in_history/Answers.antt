@@ -20,9 +20,9 @@ returns-then-is_named-clause-told g c = λ m e. (
 
 pub loop-i-preserved : goal.loop-i-preserved
 loop-i-preserved g c = record {
-  kept = c.in_ok-follow_parents.ensures.kept ∙ c.loop-i.invariant.kept;
-  beside = c.in_ok-follow_parents.ensures.beside ∙ c.loop-i.invariant.beside;
-  rising = omega (arith, c.in_ok-follow_parents.ensures.cause.later, c.loop-i.invariant.rising);
+  kept = c.in_ok-follow_parents.ensures.keeps.content ∙ c.loop-i.invariant.kept;
+  beside = c.in_ok-follow_parents.ensures.keeps.beside ∙ c.loop-i.invariant.beside;
+  still = c.in_ok-follow_parents.ensures.keeps.cause ∙ c.loop-i.invariant.still;
   looked = λ m e.
       looks_turn _ _ _ c.loop-i.i c.at-pair.result c.at-pair.ensures (c.in_ok-follow_parents.ensures.told m (c.loop-i.invariant.kept ∙ e)).grown
       c.in_ok-follow_parents.ensures.looked (c.loop-i.invariant.looked m e);

@@ -16,7 +16,7 @@ invariant-loop-i g l =
     record {
       kept : content l.objects ≡ content l.fn.objects;
       beside : beside l.objects ≡ beside l.fn.objects;
-      rising : faults l.fn.objects ≤ faults l.objects;
+      still : faults l.objects ≡ faults l.fn.objects;
       looked : ForSome (content l.fn.objects) (λ _. looks l.objects ≤ looks l.fn.objects + length (take l.i l.found));
       spread : ForSome (content l.fn.objects) (λ m. Spread (IsParent m) (as_commit l.fn.new ∷ []) (take l.i l.found) l.found);
       other : ForSome (content l.fn.objects) (λ _. (q : Root) → Contains (take l.i l.found) q → q.oid ≡ l.old → ⊥);

@@ -10,17 +10,17 @@ use Rattle.commit_graph.proofs.plain.closure_by_lists.Goals.{in-Missing, in-Unfi
 
 pub loop-pair-init : goal.loop-pair-init
 loop-pair-init g c = record {
-  kept = c.in_ok-pairs.ensures.kept;
-  beside = c.in_ok-pairs.ensures.beside;
-  rising = c.in_ok-pairs.ensures.cause.later;
+  kept = c.in_ok-pairs.ensures.keeps.content;
+  beside = c.in_ok-pairs.ensures.keeps.beside;
+  still = c.in_ok-pairs.ensures.keeps.cause;
   tally = λ m e. tally_start m;
 }
 
 pub loop-pair-preserved : goal.loop-pair-preserved
 loop-pair-preserved g c = record {
-  kept = c.in_ok-look.ensures.kept ∙ c.loop-pair.invariant.kept;
-  beside = c.in_ok-look.ensures.beside ∙ c.loop-pair.invariant.beside;
-  rising = omega (arith, c.in_ok-look.ensures.cause.later, c.loop-pair.invariant.rising);
+  kept = c.in_ok-look.ensures.keeps.content ∙ c.loop-pair.invariant.kept;
+  beside = c.in_ok-look.ensures.keeps.beside ∙ c.loop-pair.invariant.beside;
+  still = c.in_ok-look.ensures.keeps.cause ∙ c.loop-pair.invariant.still;
   tally = λ m e.
       tally_more c.deref-pair-items.result.now c.loop-pair.pair-index _ c.in_ok-look.field-0 c.loop-pair-test.true
       (c.in_ok-look.ensures.told m (c.loop-pair.invariant.kept ∙ e)) (c.loop-pair.invariant.tally m e)

@@ -1,4 +1,4 @@
-use Rattle.std.proofs.Common.{◌≡◌, ◌≤◌, take}
+use Rattle.std.proofs.Common.{◌≡◌, take}
 use Rattle.std.specs.Option.{ForSome}
 use Rattle.commit_graph.proofs.ClosureTurns.{Tally}
 use Rattle.commit_graph.proofs.plain.closure_by_lists.Given as goal
@@ -11,6 +11,6 @@ invariant-loop-pair g l =
     record {
       kept : content l.objects ≡ content l.fn.objects;
       beside : beside l.objects ≡ beside l.fn.objects;
-      rising : faults l.fn.objects ≤ faults l.objects;
+      still : faults l.objects ≡ faults l.fn.objects;
       tally : ForSome (content l.fn.objects) (λ m. Tally m (take l.pair-index l.pair-items) l.missing l.unfit);
     }

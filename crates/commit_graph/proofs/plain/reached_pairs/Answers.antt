@@ -10,15 +10,15 @@ pub loop-i-init : goal.loop-i-init
 loop-i-init g c = record {
   kept = refl;
   beside = refl;
-  rising = omega arith;
+  still = refl;
   spread = λ m e. spread_start (extends_nothing c.in_ok-list.ensures.items);
 }
 
 pub loop-i-preserved : goal.loop-i-preserved
 loop-i-preserved g c = record {
-  kept = c.in_ok-add_links_of.ensures.kept ∙ c.loop-i.invariant.kept;
-  beside = c.in_ok-add_links_of.ensures.beside ∙ c.loop-i.invariant.beside;
-  rising = omega (arith, c.in_ok-add_links_of.ensures.cause.later, c.loop-i.invariant.rising);
+  kept = c.in_ok-add_links_of.ensures.keeps.content ∙ c.loop-i.invariant.kept;
+  beside = c.in_ok-add_links_of.ensures.keeps.beside ∙ c.loop-i.invariant.beside;
+  still = c.in_ok-add_links_of.ensures.keeps.cause ∙ c.loop-i.invariant.still;
   spread = λ m e.
       spread_follows c.loop-i.i c.pair_at-pair.result (ap (λ (pairs : List Root). slice_get pairs c.loop-i.i) (sym c.deref.ensures.value) ∙ c.pair_at-pair.ensures) (c.loop-i.invariant.spread m e)
       (c.in_ok-add_links_of.ensures.told m (c.loop-i.invariant.kept ∙ e));

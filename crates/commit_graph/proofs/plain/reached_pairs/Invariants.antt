@@ -1,4 +1,4 @@
-use Rattle.std.proofs.Common.{◌≡◌, ◌≤◌, ◌-◌, ◌^◌, take}
+use Rattle.std.proofs.Common.{◌≡◌, ◌-◌, ◌^◌, take}
 use Rattle.std.specs.Option.{ForSome}
 use Rattle.commit_graph.specs.Pairs.{IsLink}
 use Rattle.commit_graph.proofs.Spread.{Spread}
@@ -12,7 +12,7 @@ invariant-loop-i g l =
     record {
       kept : content l.objects ≡ content l.fn.objects;
       beside : beside l.objects ≡ beside l.fn.objects;
-      rising : faults l.fn.objects ≤ faults l.objects;
+      still : faults l.objects ≡ faults l.fn.objects;
       spread : ForSome (content l.fn.objects) (λ m. Spread (IsLink m) l.roots (take l.i l.list.items) l.list.items);
     }
 

@@ -6,9 +6,9 @@ use Rattle.commit_graph.proofs.reaching.walk.Goals as goal
 
 pub loop-i-preserved : goal.loop-i-preserved
 loop-i-preserved g c = record {
-  kept = c.in_ok-follow_links.ensures.kept ∙ c.loop-i.invariant.kept;
-  beside = c.in_ok-follow_links.ensures.beside ∙ c.loop-i.invariant.beside;
-  rising = omega (arith, c.in_ok-follow_links.ensures.cause.later, c.loop-i.invariant.rising);
+  kept = c.in_ok-follow_links.ensures.keeps.content ∙ c.loop-i.invariant.kept;
+  beside = c.in_ok-follow_links.ensures.keeps.beside ∙ c.loop-i.invariant.beside;
+  still = c.in_ok-follow_links.ensures.keeps.cause ∙ c.loop-i.invariant.still;
   looked = λ m e.
       looks_turn _ _ _ c.loop-i.i c.at-pair.result c.at-pair.ensures (c.in_ok-follow_links.ensures.told m (c.loop-i.invariant.kept ∙ e)).grown
       c.in_ok-follow_links.ensures.looked (c.loop-i.invariant.looked m e);
