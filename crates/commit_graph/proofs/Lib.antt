@@ -4,6 +4,7 @@ pub mod BeyondWalks
 pub mod ChainLines
 pub mod ClosureTurns
 pub mod FactsHold
+pub mod Growing
 pub mod HistoryWalks
 pub mod Learned
 pub mod LeastNames
@@ -11,6 +12,7 @@ pub mod LookUps
 pub mod Marks
 pub mod NameSets
 pub mod Named
+pub mod OneAnswer
 pub mod PairOrder
 pub mod PairSteps
 pub mod Repeats

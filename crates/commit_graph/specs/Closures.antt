@@ -1,5 +1,5 @@
 -- What is reached from some roots, and whether all of it is there and well formed.
-use Rattle.std.specs.Prelude.{◌≡◌, List, Contains}
+use Rattle.std.specs.Prelude.{◌≡◌, List, [], ◌∷◌, Contains}
 use Rattle.std.specs.declared.cmp.Ordering.TheVariants.{Less}
 use Rattle.rad_base.specs.declared.names.Oid.{Oid}
 use Rattle.rad_base.specs.Order.{oid_cmp}
@@ -8,7 +8,7 @@ use Rattle.commit_graph.specs.declared.root.Root.{Root}
 use Rattle.commit_graph.specs.declared.answer.Closure.{Closure}
 use Rattle.commit_graph.specs.declared.answer.Closure.TheVariants.{Closed, Missing, BadObject}
 use Rattle.commit_graph.specs.Objects.{ObjectMap}
-use Rattle.commit_graph.specs.Pairs.{IsFit, IsUnfit, IsMissing, IsLink}
+use Rattle.commit_graph.specs.Pairs.{IsFit, IsUnfit, IsMissing, IsLink, as_commit}
 use Rattle.commit_graph.specs.Walks.{Reached}
 
 -- links lead from a root to the pair
@@ -53,6 +53,10 @@ pub record IsHeld (objects : ObjectMap) (p : Root) : Type 0 where
 -- each reached pair has its object
 abbrev pub IsClosed : ObjectMap → List Root → Type 0
 IsClosed objects roots = (p : Root) → IsReached objects roots p → IsHeld objects p
+
+-- a name is closed as a commit
+abbrev pub IsClosedCommit : ObjectMap → Oid → Type 0
+IsClosedCommit objects oid = IsClosed objects (as_commit oid ∷ [])
 
 -- a reached name without an object
 abbrev pub IsMissingName : ObjectMap → List Root → Oid → Type 0

@@ -13,6 +13,7 @@ mod fault;
 mod follow;
 mod held;
 mod history;
+mod laws;
 mod look;
 mod memory;
 mod objects;
@@ -29,6 +30,9 @@ pub use closing::{closure, lesser};
 pub use failing::{FailingObjects, Failure};
 pub use fault::{Changed, GetFault};
 pub use history::{History, history_of, in_history};
+pub use laws::{
+    added_objects_are_not_reached, added_objects_change_no_answer, closed_where_each_is, one_answer,
+};
 pub use memory::MemObjects;
 pub use objects::Objects;
 pub use plain::closure_by_lists;
