@@ -16,7 +16,7 @@ use Rattle.rad_base.proofs.KeyedMaps.{get_of_entries}
 use Rattle.keyring.specs.declared.accept.Accept.{Accept}
 use Rattle.keyring.specs.Accepts.{accept_cmp}
 use Rattle.keyring.specs.Contents.{Contents, contents_of, key_of}
-use Rattle.keyring.specs.Lines.{AreLines, AreLinesBehind, Line, MayFollow, accepted, accepts_in, named, names_in, owned}
+use Rattle.keyring.specs.Lines.{AreLines, AreLinesBehind, KeyringLine, MayFollow, accepted, accepts_in, named, names_in, owned}
 use Rattle.keyring.specs.Texts.{direct_text}
 use Rattle.keyring.proofs.AcceptOrder.{accept_exact, accept_total}
 use Rattle.rad_base.proofs.NameOrder.{equals_itself}
@@ -26,7 +26,7 @@ use Rattle.keyring.proofs.Saying.{named_in}
 
 -- ---- signatures
 
-accept_line : (lines : List Line) (accept : Accept) → Contains (accepts_in lines) accept → Contains lines (accepted accept)
+accept_line : (lines : List KeyringLine) (accept : Accept) → Contains (accepts_in lines) accept → Contains lines (accepted accept)
 accept_line [] accept h = absurd (contains_nothing accept h)
 accept_line (named text key ∷ lines) accept h = contains_tail (named text key) lines (accepted accept) (accept_line lines accept h)
 accept_line (owned message ∷ lines) accept h = contains_tail (owned message) lines (accepted accept) (accept_line lines accept h)
@@ -39,7 +39,7 @@ accept_line (accepted other ∷ lines) accept h =
 same_accepted : (a b : Accept) → accepted a ≡ accepted b → a ≡ b
 same_accepted a b e = cc e
 
-line_accepts : (lines : List Line) (accept : Accept) → Contains lines (accepted accept) → Contains (accepts_in lines) accept
+line_accepts : (lines : List KeyringLine) (accept : Accept) → Contains lines (accepted accept) → Contains (accepts_in lines) accept
 line_accepts [] accept h = absurd (contains_nothing (accepted accept) h)
 line_accepts (named text key ∷ lines) accept h =
     ⊎_elim (λ same. cc same) (λ tail. line_accepts lines accept tail) (contains_cases (named text key) lines (accepted accept) h)
@@ -52,7 +52,7 @@ line_accepts (accepted other ∷ lines) accept h =
     (contains_cases (accepted other) lines (accepted accept) h)
 
 -- a signature holds exactly where a line says so
-pub accepted_iff : (lines : List Line) (accept : Accept)
+pub accepted_iff : (lines : List KeyringLine) (accept : Accept)
     → IsTrue (set.contains (set.from_list {R = accept_cmp} (accepts_in lines)) accept) ↔ Contains lines (accepted accept)
 accepted_iff lines accept =
     let any = set.contains-from_list accept_total (accepts_in lines) accept in (
@@ -62,7 +62,7 @@ accepted_iff lines accept =
 
 -- ---- names
 
-name_line : (text : List ℕ) (lines : List Line) (key : Nid) → named_in text lines ≡ Some key → Contains lines (named text key)
+name_line : (text : List ℕ) (lines : List KeyringLine) (key : Nid) → named_in text lines ≡ Some key → Contains lines (named text key)
 name_line text [] key h = cc h
 name_line text (accepted accept ∷ lines) key h = contains_tail (accepted accept) lines (named text key) (name_line text lines key h)
 name_line text (owned message ∷ lines) key h = contains_tail (owned message) lines (named text key) (name_line text lines key h)
@@ -79,7 +79,7 @@ name_line text (named other nid ∷ lines) key h = found (is_eq (slice_cmp nat_c
     found false e h tail = contains_tail (named other nid) lines (named text key) (tail h)
 
 -- a text that was named is not named again
-not_again : (before lines : List Line) (text : List ℕ) (other key : Nid) → AreLinesBehind before lines → Contains before (named text other)
+not_again : (before lines : List KeyringLine) (text : List ℕ) (other key : Nid) → AreLinesBehind before lines → Contains before (named text other)
     → Contains lines (named text key) → ⊥
 not_again before [] text other key good has h = contains_nothing (named text key) h
 not_again before (line ∷ lines) text other key good has h =
@@ -104,7 +104,7 @@ later_name : (b : Bool) (nid key : Nid) (rest : Option Nid) → (b ≡ true → 
 later_name true nid key rest not h = absurd (not refl)
 later_name false nid key rest not h = h
 
-line_names : (before lines : List Line) (text : List ℕ) (key : Nid) → AreLinesBehind before lines → Contains lines (named text key)
+line_names : (before lines : List KeyringLine) (text : List ℕ) (key : Nid) → AreLinesBehind before lines → Contains lines (named text key)
     → named_in text lines ≡ Some key
 line_names before [] text key good h = absurd (contains_nothing (named text key) h)
 line_names before (accepted accept ∷ lines) text key good h =
@@ -123,7 +123,7 @@ line_names before (named other nid ∷ lines) text key good h =
     (contains_cases (named other nid) lines (named text key) h)
 
 -- a text that spells no key stands for a key exactly where a line says so
-pub named_iff : (lines : List Line) (text : List ℕ) (key : Nid) → AreLines lines → ((other : Nid) → IsNid other → text ≡ direct_text other → ⊥)
+pub named_iff : (lines : List KeyringLine) (text : List ℕ) (key : Nid) → AreLines lines → ((other : Nid) → IsNid other → text ≡ direct_text other → ⊥)
     → (key_of (contents_of lines) text ≡ Some key) ↔ Contains lines (named text key)
 named_iff lines text key good none =
     let look : key_of (contents_of lines) text ≡ named_in text lines =

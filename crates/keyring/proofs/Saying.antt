@@ -18,7 +18,7 @@ use Rattle.rad_base.proofs.NameOrder.{apart}
 use Rattle.keyring.specs.declared.accept.Accept.{Accept}
 use Rattle.keyring.specs.Accepts.{accept_cmp}
 use Rattle.keyring.specs.Contents.{Contents, contents_of}
-use Rattle.keyring.specs.Lines.{Line, MayFollow, accepted, accepts_in, named, names_in, owned, owned_in}
+use Rattle.keyring.specs.Lines.{KeyringLine, MayFollow, accepted, accepts_in, named, names_in, owned, owned_in}
 use Rattle.keyring.specs.Readers.{Adds, by_text}
 use Rattle.keyring.proofs.AcceptOrder.{accept_exact, accept_total}
 use Rattle.rad_base.proofs.NameOrder.{equals_itself}
@@ -27,19 +27,19 @@ use Rattle.keyring.proofs.Names.{from_entries-insert_entry, lookup_by_text}
 
 -- ---- lines behind lines
 
-names_in-append : (xs ys : List Line) → names_in (xs ++ ys) ≡ names_in xs ++ names_in ys
+names_in-append : (xs ys : List KeyringLine) → names_in (xs ++ ys) ≡ names_in xs ++ names_in ys
 names_in-append [] ys = refl
 names_in-append (named text key ∷ xs) ys = ap (λ (l : List (List ℕ × Nid)). (text, key) ∷ l) (names_in-append xs ys)
 names_in-append (accepted accept ∷ xs) ys = names_in-append xs ys
 names_in-append (owned message ∷ xs) ys = names_in-append xs ys
 
-accepts_in-append : (xs ys : List Line) → accepts_in (xs ++ ys) ≡ accepts_in xs ++ accepts_in ys
+accepts_in-append : (xs ys : List KeyringLine) → accepts_in (xs ++ ys) ≡ accepts_in xs ++ accepts_in ys
 accepts_in-append [] ys = refl
 accepts_in-append (named text key ∷ xs) ys = accepts_in-append xs ys
 accepts_in-append (accepted accept ∷ xs) ys = ap (λ (l : List Accept). accept ∷ l) (accepts_in-append xs ys)
 accepts_in-append (owned message ∷ xs) ys = accepts_in-append xs ys
 
-owned_in-append : (xs ys : List Line) → owned_in (xs ++ ys) ≡ owned_in xs ++ owned_in ys
+owned_in-append : (xs ys : List KeyringLine) → owned_in (xs ++ ys) ≡ owned_in xs ++ owned_in ys
 owned_in-append [] ys = refl
 owned_in-append (named text key ∷ xs) ys = owned_in-append xs ys
 owned_in-append (accepted accept ∷ xs) ys = owned_in-append xs ys
@@ -52,11 +52,11 @@ nil_append xs ys zs e f = e ∙ ap (λ l. ys ++ l) f ∙ append-nil ys
 -- ---- which text is named
 
 -- the name that a scan of the lines finds
-abbrev pub named_in : List ℕ → List Line → Option Nid
+abbrev pub named_in : List ℕ → List KeyringLine → Option Nid
 named_in text lines = lookup (is_at (slice_cmp nat_cmp text)) (names_in lines)
 
 -- where no line names a text, none is found
-pub not_named : (text : List ℕ) (lines : List Line) → ((key : Nid) → Contains lines (named text key) → ⊥) → named_in text lines ≡ None
+pub not_named : (text : List ℕ) (lines : List KeyringLine) → ((key : Nid) → Contains lines (named text key) → ⊥) → named_in text lines ≡ None
 not_named text [] none = refl
 not_named text (named other key ∷ lines) none =
     let tail = not_named text lines (λ nid h. none nid (contains_tail (named other key) lines (named text nid) h)) in
@@ -71,7 +71,7 @@ some_not_none true x o e = cc e
 some_not_none false x o e = (λ h. cc h, e)
 
 -- where none is found, no line names the text
-pub named_found : (text : List ℕ) (lines : List Line) → named_in text lines ≡ None → (key : Nid) → Contains lines (named text key) → ⊥
+pub named_found : (text : List ℕ) (lines : List KeyringLine) → named_in text lines ≡ None → (key : Nid) → Contains lines (named text key) → ⊥
 named_found text [] e key h = contains_nothing (named text key) h
 named_found text (named other nid ∷ lines) e key h =
     let parts = some_not_none (is_eq (slice_cmp nat_cmp text other)) nid (named_in text lines) e in
@@ -94,7 +94,7 @@ abbrev pub shown : List (Vec ℕ Global × Nid) → List Accept → List (List �
 shown names accepts own = record { names = fin.from_entries (by_text names); accepted = set.from_list accepts; own = own }
 
 -- a text is found in the fields where it is found in the lines
-found_alike : (names : List (Vec ℕ Global × Nid)) (accepts : List Accept) (own : List (List ℕ)) (before : List Line) (text : List ℕ)
+found_alike : (names : List (Vec ℕ Global × Nid)) (accepts : List Accept) (own : List (List ℕ)) (before : List KeyringLine) (text : List ℕ)
     → shown names accepts own ≡ contents_of before → lookup (is_at (λ key. slice_cmp nat_cmp text key.items)) names ≡ named_in text before
 found_alike names accepts own before text e =
     sym (lookup_by_text text names) ∙ sym (get_of_entries nat_list_cmp_total (by_text names) text)
@@ -120,13 +120,13 @@ adds_name names news accepts own text key put none old view = record {
       (ap (λ (c : Contents). c.own) m ∙ sym (nil_append _ (owned_in before) _ (owned_in-append before (named text.items key ∷ [])) refl));
 }
   where
-    lacks : (before : List Line) → old ≡ contents_of before → named_in text.items before ≡ None
+    lacks : (before : List KeyringLine) → old ≡ contents_of before → named_in text.items before ≡ None
     lacks before e = sym (found_alike names accepts own before text.items (view ∙ e)) ∙ none
 
 -- a name whose text is there may not follow
 pub names_twice : (names : List (Vec ℕ Global × Nid)) (accepts : List Accept) (own : List (List ℕ)) (text : Vec ℕ Global) (key : Nid)
     → (lookup (is_at (λ other. slice_cmp nat_cmp text.items other.items)) names ≡ None → ⊥)
-    → (old : Contents) → shown names accepts own ≡ old → (before : List Line) → old ≡ contents_of before → MayFollow before (named text.items key) → ⊥
+    → (old : Contents) → shown names accepts own ≡ old → (before : List KeyringLine) → old ≡ contents_of before → MayFollow before (named text.items key) → ⊥
 names_twice names accepts own text key there old view before e may =
     there (found_alike names accepts own before text.items (view ∙ e) ∙ not_named text.items before may)
 

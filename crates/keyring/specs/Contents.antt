@@ -10,7 +10,7 @@ use Rattle.sha2.specs.Sha256.{sha256}
 use Rattle.rad_base.specs.declared.names.Nid.{Nid}
 use Rattle.rad_base.specs.declared.names.Sig.{Sig}
 use Rattle.keyring.specs.Accepts.{accept_cmp, coded_accept, coded_nid}
-use Rattle.keyring.specs.Lines.{Line, accepts_in, names_in, owned_in}
+use Rattle.keyring.specs.Lines.{KeyringLine, accepts_in, names_in, owned_in}
 use Rattle.keyring.specs.Texts.{direct_key}
 use Rattle.keyring.specs.declared.accept.Accept.{Accept}
 
@@ -30,7 +30,7 @@ coded_contents =
     (λ parts. record { names = parts.0; accepted = parts.1.0; own = parts.1.1 }) (λ _. refl)
 
 -- what lines say
-abbrev pub contents_of : List Line → Contents
+abbrev pub contents_of : List KeyringLine → Contents
 contents_of lines = record {
   names = fin.from_entries (names_in lines);
   accepted = set.from_list (accepts_in lines);

@@ -2,7 +2,7 @@
 ghost use Rattle.std.specs.Prelude.{◌≡◌, [], IfOk, IfErr, ℕ, List};
 ghost use Rattle.std.specs.Bool.{OnTrue, OnFalse};
 ghost use Rattle.keyring.specs.Contents.{accepts, contents_of, key_of, own_messages};
-ghost use Rattle.keyring.specs.Keys.{BreaksAt, Explains, Keys, RefusedAt};
+ghost use Rattle.keyring.specs.Keys.{BreaksKeyringAt, ExplainsKeyring, Keys, RefusedAt};
 ghost use Rattle.keyring.specs.Readers.{Adds, MayNotAdd, seen};
 
 use crate::KeyFault;
@@ -84,8 +84,8 @@ impl Keyring {
     /// digits. `BadLine(n)` where line n, counted from 1, is the first that breaks this.
     pub fn read(alloc: Global, bytes: &[u8]) -> Result<Keyring, KeyFault>
         ensures keys { IfOk result (λ keyring. Keys bytes.now keyring) }
-        ensures refused { IfErr result (Explains bytes.now) }
-        ensures exact { (n : ℕ) → BreaksAt n bytes.now → RefusedAt n result }
+        ensures refused { IfErr result (ExplainsKeyring bytes.now) }
+        ensures exact { (n : ℕ) → BreaksKeyringAt n bytes.now → RefusedAt n result }
     {
         let mut keyring = Keyring::new(alloc);
         let mut rest = bytes;

@@ -4,8 +4,8 @@ ghost use Rattle.rad_base.specs.declared.names.Nid.{Nid};
 ghost use Rattle.rad_base.specs.declared.names.Sig.{Sig};
 ghost use Rattle.rad_base.specs.Sizes.{IsNid};
 ghost use Rattle.keyring.specs.Contents.{Contents, accept_of, accepts, contents_of, key_of};
-ghost use Rattle.keyring.specs.Keys.{BreaksAt, Keys};
-ghost use Rattle.keyring.specs.Lines.{AreLines, Line, accepted, named};
+ghost use Rattle.keyring.specs.Keys.{BreaksKeyringAt, Keys};
+ghost use Rattle.keyring.specs.Lines.{AreLines, KeyringLine, accepted, named};
 ghost use Rattle.keyring.specs.Texts.{direct_text};
 
 /// A file is read in one way.
@@ -15,21 +15,22 @@ pub fn one_reading()
 
 /// A file has one first broken line, and none where it is read.
 pub fn one_broken_line()
-    ensures one { (bytes : List ℕ) (m n : ℕ) → BreaksAt m bytes → BreaksAt n bytes → m ≡ n }
+    ensures one { (bytes : List ℕ) (m n : ℕ)
+        → BreaksKeyringAt m bytes → BreaksKeyringAt n bytes → m ≡ n }
     ensures none { (bytes : List ℕ) (keyring : Contents) (n : ℕ)
-        → Keys bytes keyring → BreaksAt n bytes → ⊥ }
+        → Keys bytes keyring → BreaksKeyringAt n bytes → ⊥ }
 {}
 
 /// What lines say accepts a signature exactly where one of the lines does.
 pub fn accepted_lines()
-    ensures { (lines : List Line) (key : Nid) (message : List ℕ) (sig : Sig)
+    ensures { (lines : List KeyringLine) (key : Nid) (message : List ℕ) (sig : Sig)
         → IsTrue (accepts (contents_of lines) key message sig)
         ↔ Contains lines (accepted (accept_of key message sig)) }
 {}
 
 /// A text that spells no key by itself stands for a key exactly where one of the lines says so.
 pub fn named_lines()
-    ensures { (lines : List Line) (text : List ℕ) (key : Nid) → AreLines lines
+    ensures { (lines : List KeyringLine) (text : List ℕ) (key : Nid) → AreLines lines
         → ((other : Nid) → IsNid other → text ≡ direct_text other → ⊥)
         → (key_of (contents_of lines) text ≡ Some key) ↔ Contains lines (named text key) }
 {}

@@ -4,7 +4,7 @@ ghost use Rattle.hex.specs.Hex.{encode_lower};
 ghost use Rattle.rad_base.specs.declared.names.Nid.{Nid};
 ghost use Rattle.keyring.specs.declared.accept.Accept.{Accept};
 ghost use Rattle.rad_base.specs.Sizes.{IsNid};
-ghost use Rattle.keyring.specs.Lines.{BeginsWith, IsText, Line, accepted, named, owned};
+ghost use Rattle.keyring.specs.Lines.{BeginsWithLine, IsText, KeyringLine, accepted, named, owned};
 ghost use Rattle.keyring.specs.Readers.{seen};
 
 use crate::accept::{Accept, Digest};
@@ -59,9 +59,9 @@ fn word_front(bytes: &[u8]) -> Option<(Nid, &[u8])>
 
 // The line of a name in front, and what stands behind its line feed.
 fn name_front(bytes: &[u8]) -> Option<(&[u8], Nid, &[u8])>
-    ensures found { IfSome result (λ x. BeginsWith (named x.0.now x.1) x.2.now bytes.now) }
+    ensures found { IfSome result (λ x. BeginsWithLine (named x.0.now x.1) x.2.now bytes.now) }
     ensures none { IfNone result ((text : List ℕ) (key : Nid) (rest : List ℕ)
-        → BeginsWith (named text key) rest bytes.now → ⊥) }
+        → BeginsWithLine (named text key) rest bytes.now → ⊥) }
 {
     let rest = after(bytes, b"name ")?;
     let (text, rest) = text_front(rest)?;
@@ -72,9 +72,9 @@ fn name_front(bytes: &[u8]) -> Option<(&[u8], Nid, &[u8])>
 
 // The line of a signature in front, and what stands behind its line feed.
 fn accept_front(bytes: &[u8]) -> Option<(Accept, &[u8])>
-    ensures found { IfSome result (λ x. BeginsWith (accepted x.0) x.1.now bytes.now) }
+    ensures found { IfSome result (λ x. BeginsWithLine (accepted x.0) x.1.now bytes.now) }
     ensures none { IfNone result ((accept : Accept) (rest : List ℕ)
-        → BeginsWith (accepted accept) rest bytes.now → ⊥) }
+        → BeginsWithLine (accepted accept) rest bytes.now → ⊥) }
 {
     let rest = after(bytes, b"accept ")?;
     let (key, rest) = word_front(rest)?;
@@ -88,9 +88,9 @@ fn accept_front(bytes: &[u8]) -> Option<(Accept, &[u8])>
 // The line of an own message in front, and what stands behind its line feed.
 fn own_front(alloc: Global, bytes: &[u8]) -> Result<Option<(Vec<u8>, &[u8])>, NoMemory>
     ensures found { IfOk result (λ line.
-        IfSome line (λ x. BeginsWith (owned x.0.items) x.1.now bytes.now)) }
+        IfSome line (λ x. BeginsWithLine (owned x.0.items) x.1.now bytes.now)) }
     ensures none { IfOk result (λ line. IfNone line ((message rest : List ℕ)
-        → BeginsWith (owned message) rest bytes.now → ⊥)) }
+        → BeginsWithLine (owned message) rest bytes.now → ⊥)) }
 {
     let Some(rest) = after(bytes, b"own ") else {
         return Ok(None);
@@ -107,9 +107,9 @@ fn own_front(alloc: Global, bytes: &[u8]) -> Result<Option<(Vec<u8>, &[u8])>, No
 // The line in front, and what stands behind its line feed.
 pub fn entry_front(alloc: Global, bytes: &[u8]) -> Result<Option<(Entry, &[u8])>, NoMemory>
     ensures found { IfOk result (λ line.
-        IfSome line (λ x. BeginsWith (seen x.0) x.1.now bytes.now)) }
-    ensures none { IfOk result (λ line. IfNone line ((other : Line) (rest : List ℕ)
-        → BeginsWith other rest bytes.now → ⊥)) }
+        IfSome line (λ x. BeginsWithLine (seen x.0) x.1.now bytes.now)) }
+    ensures none { IfOk result (λ line. IfNone line ((other : KeyringLine) (rest : List ℕ)
+        → BeginsWithLine other rest bytes.now → ⊥)) }
 {
     if let Some((text, key, rest)) = name_front(bytes) {
         let text = text.to_vec(alloc)?;

@@ -1,7 +1,7 @@
 use Rattle.std.proofs.Common.{◌∷◌, length, inl, inr, refl, ap, arith, length-append}
 use Rattle.std.proofs.lemmas.Result.{err_from_is_err_and}
-use Rattle.keyring.specs.Keys.{BreaksAt}
-use Rattle.keyring.specs.Lines.{line_text}
+use Rattle.keyring.specs.Keys.{BreaksKeyringAt}
+use Rattle.keyring.specs.Lines.{keyring_line_text}
 use Rattle.keyring.specs.Readers.{seen}
 use Rattle.keyring.specs.declared.fault.KeyFault.TheVariants.{BadLine}
 use Rattle.rad_base.proofs.Conditions.{is_nothing, is_something}
@@ -28,7 +28,7 @@ returns-in_default-clause-refused c =
 
 pub returns-in_default-clause-exact : goal.returns-in_default-clause-exact
 returns-in_default-clause-exact c = λ n b.
-    let here : BreaksAt c.reading.number c.args.bytes.now =
+    let here : BreaksKeyringAt c.reading.number c.args.bytes.now =
     breaks_here c.args.bytes.now c.reading.rest.now c.reading.number c.reading.keyring c.reading.invariant.read
     (is_something c.is_empty.result c.reading.rest.now c.is_empty.ensures c.reading-test.true)
     (rw c.in_default.is at c.in_ok-entry.ensures.none) in
@@ -52,7 +52,7 @@ returns-then-not-branch-clause-refused c =
 
 pub returns-then-not-branch-clause-exact : goal.returns-then-not-branch-clause-exact
 returns-then-not-branch-clause-exact c = λ n b.
-    let here : BreaksAt c.reading.number c.args.bytes.now =
+    let here : BreaksKeyringAt c.reading.number c.args.bytes.now =
     breaks_order c.args.bytes.now c.reading.rest.now c.in-Some.behind.now c.reading.number c.reading.keyring (seen c.in-Some.entry) c.reading.invariant.read
     (is_something c.is_empty.result c.reading.rest.now c.is_empty.ensures c.reading-test.true)
     (rw c.in-Some.is at c.in_ok-entry.ensures.found) (rw c.if-not-branch.true at c.in_ok-add.ensures.taken) in
@@ -61,13 +61,13 @@ returns-then-not-branch-clause-exact c = λ n b.
 pub reading-smaller : goal.reading-smaller
 reading-smaller c =
     let front = rw c.in-Some.is at c.in_ok-entry.ensures.found in
-    omega (arith, ap length front.text, length-append (line_text (seen c.in-Some.entry)) (10 ∷ c.in-Some.behind.now))
+    omega (arith, ap length front.text, length-append (keyring_line_text (seen c.in-Some.entry)) (10 ∷ c.in-Some.behind.now))
 
 pub reading-preserved : goal.reading-preserved
 reading-preserved c =
     let front = rw c.in-Some.is at c.in_ok-entry.ensures.found in
     record {
-      left = omega (arith, c.reading.invariant.left, ap length front.text, length-append (line_text (seen c.in-Some.entry)) (10 ∷ c.in-Some.behind.now));
+      left = omega (arith, c.reading.invariant.left, ap length front.text, length-append (keyring_line_text (seen c.in-Some.entry)) (10 ∷ c.in-Some.behind.now));
       read = read_more c.args.bytes.now c.reading.rest.now c.in-Some.behind.now c.reading.number c.reading.keyring c.add.new.self (seen c.in-Some.entry)
           c.reading.invariant.read front (rw c.if-not-branch.false at c.in_ok-add.ensures.added);
     }
