@@ -131,7 +131,7 @@ only_link m child parent h =
       link = subst (λ (pair : Root). Contains (map pair_of (links Commit h.bytes)) pair) same (map_has pair_of (links Commit h.bytes) image.0 kept.0);
     }
 
-line_reached : (m : ObjectMap) (roots : List Root) (from : Oid) (commits : List Oid) (end : Oid)
+pub line_reached : (m : ObjectMap) (roots : List Root) (from : Oid) (commits : List Oid) (end : Oid)
     → IsReached m roots (as_commit from) → IsLine m from commits end
     → IsReached m roots (as_commit end)
 line_reached m roots from [] end r e = subst (λ (x : Oid). IsReached m roots (as_commit x)) e r

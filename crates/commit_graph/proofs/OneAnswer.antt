@@ -90,7 +90,7 @@ one_line objects from (x ∷ a) (y ∷ b) end other l h m k =
     (ap (λ (o : Oid). o ∷ a) here ∙ ap (λ (c : List Oid). y ∷ c) rest.0, rest.1)
 
 -- a walk over children is a line read from its end
-walk_back : (objects : ObjectMap) (root : Oid) (later : List Oid) (tip : Oid)
+pub walk_back : (objects : ObjectMap) (root : Oid) (later : List Oid) (tip : Oid)
     → Walk (IsOnlyParent objects) root later tip → IsLine objects tip (reverse later) root
 walk_back objects root [] tip w = sym w
 walk_back objects root (x ∷ later) tip w =

@@ -8,7 +8,9 @@ use Rattle.rad_base.specs.declared.names.Nid.{Nid}
 use Rattle.keyring.specs.Contents.{Contents}
 use Rattle.identity_doc.proofs.DelegateKeys.{read_iff}
 use Rattle.rad_base.specs.Lists.{AllDiffer}
-use Rattle.identity_doc.specs.Documents.{◌>>=◌, Checked, checked, counted_elements, key_in, element_keys, delegate_elements, threshold_number, payload_object, threshold_within, visibility_of, within}
+use Rattle.identity_doc.specs.Documents.{◌>>=◌, CanDecide, Checked, checked, counted_elements, key_in, element_keys, delegate_elements, threshold_number, payload_object, threshold_within, visibility_of, within}
+use Rattle.identity_doc.specs.Texts.{IsSomeText}
+use Rattle.identity_doc.specs.declared.doc.Doc.{Doc}
 use Rattle.identity_doc.specs.declared.fault.DocFault.{DocFault}
 use Rattle.identity_doc.specs.declared.visibility.Visibility.{Visibility}
 use Rattle.identity_doc.specs.declared.fault.DocFault.TheVariants.{BadCount, BadThreshold}
@@ -106,3 +108,9 @@ module _ (value : Data) (keyring : Contents) where
       let reach = reached (length k.0) (as_u64 n.0) t.0 (ok_or_some (option_and_then (within (length k.0)) (as_u64 n.0)) BadThreshold t.0 t.1) in
       let whole : IsBounded k.0 t.0 = record { differ = keys.0; few = keys.1; low = reach.0; high = reach.1 } in
       bounded_same k.0 t.0 p.0 v.0 c v.2 whole
+
+-- a document that some text is
+pub can_decide : (keyring : Contents) (doc : Doc) → IsSomeText keyring doc → CanDecide doc
+can_decide keyring doc text =
+    let b = bounded text.1.value keyring _ text.1.says.passes in
+    record { differ = b.differ; few = b.few; low = b.low; high = b.high }

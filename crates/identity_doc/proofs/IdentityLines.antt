@@ -13,9 +13,8 @@ use Rattle.commit_graph.proofs.Walked.{walk_push}
 use Rattle.identity_doc.specs.declared.doc.Doc.{Doc}
 use Rattle.identity_doc.specs.declared.id_fault.IdFault.{IdFault}
 use Rattle.identity_doc.specs.declared.id_fault.IdFault.TheVariants.{Missing, BadObject, TwoParents, NoRoot, NoDocument, WrongRoot, NotJson, BadDocument, BadSignatures, TooFew, Get}
-use Rattle.identity_doc.specs.IdentityChains.{EndsLine, HasDocument, HasDocumentIn, IsApproved, IsChange}
+use Rattle.identity_doc.specs.IdentityChains.{EndsLine, HasDocument, HasDocumentIn, IsApproved, IsIdentityChange}
 use Rattle.identity_doc.specs.IdentityFaults.{FailsChange, FailsLine, IsIdFault}
-use Rattle.identity_doc.specs.IdentityReaders.{IsWalkFault}
 
 -- where a walk goes on behind what another came to by the same items
 walk_next : {X : Type 0} (S T : X → X → Type 0) (p : X) (path : List X) (q : X) (i : ℕ) (r x d : X) → Walk S p path q
@@ -42,8 +41,8 @@ module _ (m : ObjectMap) (keyring : Contents) (rid : Rid) (root : Oid) (later : 
       → i < length later → get_or later i d ≡ commit → HasDocument m keyring commit doc → IsApproved m keyring parent before commit
       → EndsLine m keyring rid (root ∷ take (i + 1) later) commit doc
   ends_more i parent before commit d doc ends inside e has approved =
-      let step : IsChange m keyring parent commit = record {
-        only = walk_next (IsOnlyParent m) (IsChange m keyring) root later tip i parent commit d chain.1 ends.0.1 inside e;
+      let step : IsIdentityChange m keyring parent commit = record {
+        only = walk_next (IsOnlyParent m) (IsIdentityChange m keyring) root later tip i parent commit d chain.1 ends.0.1 inside e;
         after = doc;
         has = has;
         before = before;
@@ -51,7 +50,7 @@ module _ (m : ObjectMap) (keyring : Contents) (rid : Rid) (root : Oid) (later : 
         approved = approved;
       } in
       let more : take (i + 1) later ≡ take i later ++ commit ∷ [] = take_more later i d inside ∙ ap (λ (x : Oid). take i later ++ x ∷ []) e in
-      ((ends.0.0, rw more (walk_push (IsChange m keyring) root (take i later) parent commit ends.0.1 step)), has)
+      ((ends.0.0, rw more (walk_push (IsIdentityChange m keyring) root (take i later) parent commit ends.0.1 step)), has)
 
   -- a later commit that breaks a rule first
   pub fails_later : (i : ℕ) (parent : Oid) (before : Doc) (commit d : Oid) (fault : IdFault) → EndsLine m keyring rid (root ∷ take i later) parent before
@@ -69,20 +68,6 @@ module _ (m : ObjectMap) (keyring : Contents) (rid : Rid) (root : Oid) (later : 
         had = ends.1;
         fails = fails;
       })
-
--- why there is no chain of commits
-pub fault_of_walk : (m : ObjectMap) (keyring : Contents) (rid : Rid) (tip : Oid) (fault : IdFault) → IsWalkFault m tip fault → IsIdFault m keyring rid tip fault
-fault_of_walk m keyring rid tip (Missing oid) h = h
-fault_of_walk m keyring rid tip (BadObject oid) h = h
-fault_of_walk m keyring rid tip (TwoParents oid) h = h
-fault_of_walk m keyring rid tip (NoRoot oid) h = h
-fault_of_walk m keyring rid tip (Get why) h = tt
-fault_of_walk m keyring rid tip (NoDocument oid) h = absurd h
-fault_of_walk m keyring rid tip (WrongRoot oid) h = absurd h
-fault_of_walk m keyring rid tip (NotJson oid) h = absurd h
-fault_of_walk m keyring rid tip (BadDocument oid why) h = absurd h
-fault_of_walk m keyring rid tip (BadSignatures oid n) h = absurd h
-fault_of_walk m keyring rid tip (TooFew oid have need) h = absurd h
 
 -- why a chain of commits is no identity chain
 pub fault_of_line : (m : ObjectMap) (keyring : Contents) (rid : Rid) (tip : Oid) (fault : IdFault) → IsClosed m (as_commit tip ∷ [])
@@ -110,7 +95,7 @@ pub ends_all : (m : ObjectMap) (keyring : Contents) (rid : Rid) (root : Oid) (la
     → EndsLine m keyring rid (root ∷ later) tip doc
 ends_all m keyring rid root later tip i parent doc chain ends all =
     let whole : EndsLine m keyring rid (root ∷ later) parent doc = subst (λ (l : List Oid). EndsLine m keyring rid (root ∷ l) parent doc) all ends in
-    let same = walk_end (IsOnlyParent m) (IsChange m keyring) root later tip parent chain.1 whole.0.1 in
+    let same = walk_end (IsOnlyParent m) (IsIdentityChange m keyring) root later tip parent chain.1 whole.0.1 in
     subst (λ (o : Oid). EndsLine m keyring rid (root ∷ later) o doc) same whole
 
 -- a chain has a commit

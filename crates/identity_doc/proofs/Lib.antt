@@ -2,12 +2,16 @@ pub mod Bounds
 pub mod Branches
 pub mod DelegateKeys
 pub mod Elements
+pub mod FirstFaults
+pub mod Growing
 pub mod IdentityLines
 pub mod IdentitySteps
 pub mod NotRefused
 pub mod OneDocument
+pub mod OneFault
 pub mod OneIdentity
 pub mod OneSignatures
 pub mod SignatureFronts
 pub mod SignatureOrder
 pub mod SignatureReading
+pub mod TipLines

@@ -13,26 +13,26 @@ use Rattle.rad_base.specs.declared.names.Nid.{Nid}
 use Rattle.rad_base.specs.Order.{nid_cmp}
 use Rattle.rad_base.proofs.NameOrder.{nid_exact, nid_total}
 use Rattle.identity_doc.specs.declared.signatures.SignatureLine.{SignatureLine}
-use Rattle.identity_doc.specs.Signatures.{IsRising}
-use Rattle.identity_doc.specs.SignatureReaders.{MayFollow}
+use Rattle.identity_doc.specs.Signatures.{AreRisingKeys}
+use Rattle.identity_doc.specs.SignatureReaders.{KeyMayFollow}
 
 -- ---- the last line
 
 -- one more line above the others
-pub rising_push : (lines : List SignatureLine) (line : SignatureLine) → IsRising lines → MayFollow lines line.key → IsRising (lines ++ line ∷ [])
+pub rising_push : (lines : List SignatureLine) (line : SignatureLine) → AreRisingKeys lines → KeyMayFollow lines line.key → AreRisingKeys (lines ++ line ∷ [])
 rising_push [] line rising may = tt
 rising_push (x ∷ []) line rising may = (may, tt)
 rising_push (x ∷ y ∷ lines) line rising may = (rising.0, rising_push (y ∷ lines) line rising.1 may)
 
 -- where the lines rise, the last is above those before it
-pub rising_last : (lines : List SignatureLine) (line : SignatureLine) → IsRising (lines ++ line ∷ []) → MayFollow lines line.key
+pub rising_last : (lines : List SignatureLine) (line : SignatureLine) → AreRisingKeys (lines ++ line ∷ []) → KeyMayFollow lines line.key
 rising_last [] line rising = tt
 rising_last (x ∷ []) line rising = rising.0
 rising_last (x ∷ y ∷ lines) line rising = rising_last (y ∷ lines) line rising.1
 
 -- what may follow is above the last line
 pub may_follow_last : (lines : List SignatureLine) (last : SignatureLine) (key : Nid) → slice_get lines (length lines - 1) ≡ Some last
-    → (nid_cmp last.key key ≡ Less → MayFollow lines key) × (MayFollow lines key → nid_cmp last.key key ≡ Less)
+    → (nid_cmp last.key key ≡ Less → KeyMayFollow lines key) × (KeyMayFollow lines key → nid_cmp last.key key ≡ Less)
 may_follow_last [] last key e = cc e
 may_follow_last (x ∷ []) last key e =
     let same : x ≡ last = cc e in
@@ -63,18 +63,18 @@ greater_apart a b e = ap is_eq (nid_total.antisymm b a ∙ ap ordering_reverse e
 -- ---- the order of all lines
 
 -- the lines behind the first are above it
-rising_below : (x : SignatureLine) (lines : List SignatureLine) → IsRising (x ∷ lines) → All (λ y. nid_cmp x.key y.key ≡ Less) lines
+rising_below : (x : SignatureLine) (lines : List SignatureLine) → AreRisingKeys (x ∷ lines) → All (λ y. nid_cmp x.key y.key ≡ Less) lines
 rising_below x [] rising = λ k d inside. absurd (omega arith)
 rising_below x (y ∷ lines) rising =
     All-cons (λ z. nid_cmp x.key z.key ≡ Less) y lines rising.0
     (All-weaker (λ z. nid_cmp y.key z.key ≡ Less) (λ z. nid_cmp x.key z.key ≡ Less)
     (λ z h. nid_total.trans x.key y.key z.key rising.0 h) lines (rising_below y lines rising.1))
 
-rising_tail : (x : SignatureLine) (lines : List SignatureLine) → IsRising (x ∷ lines) → IsRising lines
+rising_tail : (x : SignatureLine) (lines : List SignatureLine) → AreRisingKeys (x ∷ lines) → AreRisingKeys lines
 rising_tail x [] rising = tt
 rising_tail x (y ∷ lines) rising = rising.1
 
-sorted_at : (lines : List SignatureLine) → IsRising lines → (k : ℕ) (d : SignatureLine) → k + 1 < length lines
+sorted_at : (lines : List SignatureLine) → AreRisingKeys lines → (k : ℕ) (d : SignatureLine) → k + 1 < length lines
     → is_lt (nid_cmp (get_or lines (k + 1) d).key (get_or lines k d).key) ≡ false
 sorted_at [] rising k d inside = absurd (omega arith)
 sorted_at (x ∷ []) rising k d inside = absurd (omega arith)
@@ -84,7 +84,7 @@ sorted_at (x ∷ y ∷ lines) rising (suc k) d inside =
     rw next (sorted_at (y ∷ lines) rising.1 k d (omega arith))
 
 -- the comparisons with a key rise along the lines, as a binary search asks
-comparisons_rise : (lines : List SignatureLine) → IsRising lines → (key : Nid) → IsNonDecreasingBy (λ line. ordering_index (nid_cmp line.key key)) lines
+comparisons_rise : (lines : List SignatureLine) → AreRisingKeys lines → (key : Nid) → IsNonDecreasingBy (λ line. ordering_index (nid_cmp line.key key)) lines
 comparisons_rise lines rising key =
     let sorted : IsSortedBy (λ (a b : SignatureLine). is_lt (nid_cmp a.key b.key)) lines = λ k d low high. sorted_at lines rising k d high in
     searchable_from_sorted nid_total (λ (line : SignatureLine). line.key) lines key sorted
@@ -92,7 +92,7 @@ comparisons_rise lines rising key =
 -- ---- the line of a key
 
 -- where the line at a place is of the key, a test of the lines of the key is that of this line
-pub alone : (lines : List SignatureLine) → IsRising lines → (test : SignatureLine → Bool) (key : Nid) (at : ℕ) (d : SignatureLine)
+pub alone : (lines : List SignatureLine) → AreRisingKeys lines → (test : SignatureLine → Bool) (key : Nid) (at : ℕ) (d : SignatureLine)
     → at < length lines → nid_cmp (get_or lines at d).key key ≡ Equal
     → list_any (λ line. eq_by_cmp nid_cmp line.key key && test line) lines ≡ test (get_or lines at d)
 alone [] rising test key at d inside here = absurd (omega arith)
@@ -121,7 +121,7 @@ apart_fails Equal b (inr e) = cc e
 apart_fails Greater b h = refl
 
 -- where a search for a key ends between lines, none is of the key
-pub absent : (lines : List SignatureLine) → IsRising lines → (test : SignatureLine → Bool) (key : Nid) (at : ℕ)
+pub absent : (lines : List SignatureLine) → AreRisingKeys lines → (test : SignatureLine → Bool) (key : Nid) (at : ℕ)
     → IsBinarySearchResult (λ line. nid_cmp line.key key) lines (Err at)
     → list_any (λ line. eq_by_cmp nid_cmp line.key key && test line) lines ≡ false
 absent lines rising test key at found =

@@ -1,9 +1,10 @@
 -- Identity documents: what a JSON value says of who may speak for a repository and who sees it.
-use Rattle.std.specs.Prelude.{◌≡◌, ℕ, ◌&&◌, nat_le, if◌then◌else◌, Bool, List, [], ◌∷◌, ◌++◌, length, map, codes, Contains, ◌⊎◌, Option, Some, None, option_map, option_and_then, ok_or, Result, Ok, Err}
+use Rattle.std.specs.Prelude.{◌≡◌, ℕ, ◌≤◌, ◌&&◌, nat_le, if◌then◌else◌, Bool, List, [], ◌∷◌, ◌++◌, length, map, codes, Contains, ◌⊎◌, Option, Some, None, option_map, option_and_then, ok_or, Result, Ok, Err}
 use Rattle.std.specs.List.{list_any}
 use Rattle.std.specs.Str.{bytes_eq}
 use Rattle.serde_json.specs.Data.{Data, object, Items, no_items, item, Num}
 use Rattle.serde_json.specs.Find.{get, as_array, as_number, as_object, as_str, as_u64}
+use Rattle.rad_base.specs.Lists.{AllDiffer}
 use Rattle.rad_base.specs.declared.names.Nid.{Nid}
 use Rattle.keyring.specs.Contents.{Contents, key_of}
 use Rattle.ref_name.specs.Rules.{KeepsRules}
@@ -153,6 +154,13 @@ pub record IsDocument (value : Data) (keyring : Contents) (doc : Doc) : Type 0 w
     visibility = doc.visibility;
   })
   pub branch : IsBranch payload doc.default_branch
+
+-- 1 to 255 different delegates, and a threshold that they can reach
+pub record CanDecide (doc : Doc) : Type 0 where
+  pub differ : AllDiffer doc.delegates
+  pub few : length doc.delegates ≤ 255
+  pub low : 1 ≤ doc.threshold
+  pub high : doc.threshold ≤ length doc.delegates
 
 -- this check is the first that the value fails
 abbrev pub IsRefused : Data → Contents → DocFault → Type 0

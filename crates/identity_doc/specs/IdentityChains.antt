@@ -15,28 +15,28 @@ use Rattle.identity_doc.specs.declared.doc.Doc.{Doc}
 use Rattle.identity_doc.specs.declared.signatures.SignatureLine.{SignatureLine}
 use Rattle.identity_doc.specs.Majorities.{change_message, majority, signed_by}
 use Rattle.identity_doc.specs.Signatures.{AreSignatures}
-use Rattle.identity_doc.specs.Texts.{IsText}
+use Rattle.identity_doc.specs.Texts.{IsDocumentText}
 
 -- the name has a blob of these bytes
-abbrev pub HasBlob : ObjectMap → Oid → List ℕ → Type 0
-HasBlob objects blob bytes = objects blob ≡ Some (Blob, bytes)
+abbrev pub IsBlob : ObjectMap → Oid → List ℕ → Type 0
+IsBlob objects blob bytes = objects blob ≡ Some (Blob, bytes)
 
 -- the commit's document blob is this one, of these bytes
 pub record HasDocumentText (objects : ObjectMap) (commit blob : Oid) (bytes : List ℕ) : Type 0 where
-  pub named : embedded.HasDocument objects commit blob
-  pub there : HasBlob objects blob bytes
+  pub named : embedded.HasDocumentBlob objects commit blob
+  pub there : IsBlob objects blob bytes
 
 -- the commit's blob of signatures has these bytes
 pub record HasSignaturesText (objects : ObjectMap) (commit : Oid) (bytes : List ℕ) : Type 0 where
   pub blob : Oid
-  pub named : embedded.HasSignatures objects commit blob
-  pub there : HasBlob objects blob bytes
+  pub named : embedded.HasSignaturesBlob objects commit blob
+  pub there : IsBlob objects blob bytes
 
 -- the commit has this document, in this blob
 pub record HasDocumentIn (objects : ObjectMap) (keyring : Contents) (commit blob : Oid) (doc : Doc) : Type 0 where
   pub bytes : List ℕ
   pub has : HasDocumentText objects commit blob bytes
-  pub text : IsText keyring bytes doc
+  pub text : IsDocumentText keyring bytes doc
 
 -- the commit has this document
 abbrev pub HasDocument : ObjectMap → Contents → Oid → Doc → Type 0
@@ -51,7 +51,7 @@ pub record HasSignatures (objects : ObjectMap) (commit : Oid) (lines : List Sign
 -- n of the delegates of the document before signed the change of the parent's document to the commit's
 pub record HasSigners (objects : ObjectMap) (keyring : Contents) (parent : Oid) (before : Doc) (commit : Oid) (n : ℕ) : Type 0 where
   pub blob : Oid
-  pub named : embedded.HasDocument objects commit blob
+  pub named : embedded.HasDocumentBlob objects commit blob
   pub lines : List SignatureLine
   pub has : HasSignatures objects commit lines
   pub count : n ≡ signed_by keyring (change_message parent blob) lines before.delegates
@@ -63,7 +63,7 @@ pub record IsApproved (objects : ObjectMap) (keyring : Contents) (parent : Oid) 
   pub enough : majority (length before.delegates) ≤ signers
 
 -- the commit has a document and one parent, of whose document the delegates approved the change
-pub record IsChange (objects : ObjectMap) (keyring : Contents) (parent commit : Oid) : Type 0 where
+pub record IsIdentityChange (objects : ObjectMap) (keyring : Contents) (parent commit : Oid) : Type 0 where
   pub only : IsOnlyParent objects parent commit
   pub after : Doc
   pub has : HasDocument objects keyring commit after
@@ -80,7 +80,7 @@ pub record IsFirst (objects : ObjectMap) (keyring : Contents) (rid : Rid) (root 
 -- the first commit is a root of the repository, each later one a change of the one before, and the last is the tip
 abbrev pub IsIdentityLine : ObjectMap → Contents → Rid → List Oid → Oid → Type 0
 IsIdentityLine objects keyring rid [] tip = ⊥
-IsIdentityLine objects keyring rid (root ∷ later) tip = IsFirst objects keyring rid root × Walk (IsChange objects keyring) root later tip
+IsIdentityLine objects keyring rid (root ∷ later) tip = IsFirst objects keyring rid root × Walk (IsIdentityChange objects keyring) root later tip
 
 -- an identity line whose tip has this document
 abbrev pub EndsLine : ObjectMap → Contents → Rid → List Oid → Oid → Doc → Type 0

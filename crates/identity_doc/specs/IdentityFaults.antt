@@ -1,5 +1,5 @@
 -- Why there is no identity chain.
-use Rattle.std.specs.Prelude.{◌≡◌, ◌≢◌, ℕ, ◌<◌, ◌≤◌, List, [], ◌∷◌, ◌++◌, length, ◌⊎◌, Option, Result, IfErr}
+use Rattle.std.specs.Prelude.{◌≡◌, ◌≢◌, ℕ, ◌<◌, ◌≤◌, List, [], ◌∷◌, ◌++◌, length, ◌⊎◌, Option, None, Some}
 use Rattle.rad_base.specs.declared.names.Oid.{Oid}
 use Rattle.rad_base.specs.declared.names.Rid.{Rid}
 use Rattle.keyring.specs.Contents.{Contents}
@@ -7,7 +7,6 @@ use Rattle.commit_graph.specs.declared.answer.Closure.TheVariants as closure
 use Rattle.commit_graph.specs.declared.fault.GetFault.{GetFault}
 use Rattle.commit_graph.specs.Objects.{ObjectMap}
 use Rattle.commit_graph.specs.Pairs.{as_commit}
-use Rattle.commit_graph.specs.Faults.{IsCause}
 use Rattle.commit_graph.specs.Closures.{IsClosed, IsClosure}
 use Rattle.commit_graph.specs.Chains.{IsChain, IsFork, IsReturn}
 use Rattle.tree_entry.specs.Embedded as embedded
@@ -16,7 +15,7 @@ use Rattle.identity_doc.specs.declared.fault.DocFault.{DocFault}
 use Rattle.identity_doc.specs.declared.id_fault.IdFault.{IdFault}
 use Rattle.identity_doc.specs.declared.id_fault.IdFault.TheVariants.{Missing, BadObject, TwoParents, NoRoot, NoDocument, WrongRoot, NotJson, BadDocument, BadSignatures, TooFew, Get}
 use Rattle.identity_doc.specs.Majorities.{majority}
-use Rattle.identity_doc.specs.Signatures.{BreaksAt}
+use Rattle.identity_doc.specs.Signatures.{BreaksSignaturesAt}
 use Rattle.identity_doc.specs.Texts.{IsBadText, IsNoJson}
 use Rattle.identity_doc.specs.IdentityChains.{HasDocument, HasDocumentText, HasSigners, HasSignaturesText, IsIdentityLine}
 
@@ -36,7 +35,7 @@ HasBadDocument objects keyring commit blob why = (bytes : List ℕ) × HasDocume
 abbrev pub HasBrokenLine : ObjectMap → Oid → ℕ → Type 0
 HasBrokenLine objects commit n =
     ((n ≡ 0) × ((bytes : List ℕ) → HasSignaturesText objects commit bytes → ⊥))
-    ⊎ ((bytes : List ℕ) × HasSignaturesText objects commit bytes × BreaksAt n bytes)
+    ⊎ ((bytes : List ℕ) × HasSignaturesText objects commit bytes × BreaksSignaturesAt n bytes)
 
 -- the commit has a document
 abbrev pub HasSomeDocument : ObjectMap → Contents → Oid → Type 0
@@ -51,7 +50,7 @@ pub record IsUnapproved (objects : ObjectMap) (keyring : Contents) (parent : Oid
 -- the first rule that a commit without parents breaks
 abbrev pub FailsFirst : ObjectMap → Contents → Rid → Oid → IdFault → Type 0
 FailsFirst objects keyring rid root (NoDocument oid) = (oid ≡ root) × LacksDocument objects root
-FailsFirst objects keyring rid root (WrongRoot oid) = (oid ≡ root) × ((blob : Oid) × embedded.HasDocument objects root blob × (blob ≢ rid.0))
+FailsFirst objects keyring rid root (WrongRoot oid) = (oid ≡ root) × ((blob : Oid) × embedded.HasDocumentBlob objects root blob × (blob ≢ rid.0))
 FailsFirst objects keyring rid root (NotJson oid) = (oid ≡ root) × HasNoJson objects root rid.0
 FailsFirst objects keyring rid root (BadDocument oid why) = (oid ≡ root) × HasBadDocument objects keyring root rid.0 why
 FailsFirst objects keyring rid root (Get why) = Unit {0}
@@ -110,12 +109,7 @@ IsIdFault objects keyring rid tip other = IsFaultInChain objects keyring rid tip
 abbrev pub IsGet : IdFault → Type 0
 IsGet fault = (why : GetFault) × (fault ≡ Get why)
 
--- the cause of a fault that a look-up met
-abbrev pub IsGetCause : Option ObjectMap → ℕ → ℕ → IdFault → Type 0
-IsGetCause content before now (Get why) = IsCause content before now why
-IsGetCause content before now other = Unit {0}
-
--- the count of faults never falls, and a fault that a look-up met has its cause
-pub record HasGetCause {T : Type 0} (content : Option ObjectMap) (before now : ℕ) (result : Result T IdFault) : Type 0 where
-  pub later : before ≤ now
-  pub cause : IfErr result (IsGetCause content before now)
+-- the fault of objects that a refusal is
+abbrev pub id_fault_in : IdFault → Option GetFault
+id_fault_in (Get why) = Some why
+id_fault_in other = None

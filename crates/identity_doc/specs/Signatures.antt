@@ -13,42 +13,42 @@ pub record IsSignatureLine (line : SignatureLine) : Type 0 where
   pub sig : IsSig line.sig
 
 -- a line as the blob has it, without its line feed
-abbrev pub line_text : SignatureLine → List ℕ
-line_text line = encode_lower line.key.0 ++ 32 ∷ encode_lower line.sig.0
+abbrev pub signature_line_text : SignatureLine → List ℕ
+signature_line_text line = encode_lower line.key.0 ++ 32 ∷ encode_lower line.sig.0
 
 -- the lines of a blob, each ended by a line feed
 abbrev pub lines_text : List SignatureLine → List ℕ
 lines_text [] = []
-lines_text (line ∷ lines) = line_text line ++ 10 ∷ lines_text lines
+lines_text (line ∷ lines) = signature_line_text line ++ 10 ∷ lines_text lines
 
 -- each key is below the next
-abbrev pub IsRising : List SignatureLine → Type 0
-IsRising [] = Unit {0}
-IsRising (line ∷ []) = Unit {0}
-IsRising (line ∷ next ∷ lines) = (nid_cmp line.key next.key ≡ Less) × IsRising (next ∷ lines)
+abbrev pub AreRisingKeys : List SignatureLine → Type 0
+AreRisingKeys [] = Unit {0}
+AreRisingKeys (line ∷ []) = Unit {0}
+AreRisingKeys (line ∷ next ∷ lines) = (nid_cmp line.key next.key ≡ Less) × AreRisingKeys (next ∷ lines)
 
 -- lines that make a blob
-pub record AreLines (lines : List SignatureLine) : Type 0 where
+pub record AreSignatureLines (lines : List SignatureLine) : Type 0 where
   pub formed : All IsSignatureLine lines
-  pub rising : IsRising lines
+  pub rising : AreRisingKeys lines
 
 -- the bytes are these lines, which make a blob
 pub record AreSignatures (bytes : List ℕ) (lines : List SignatureLine) : Type 0 where
-  pub good : AreLines lines
+  pub good : AreSignatureLines lines
   pub text : bytes ≡ lines_text lines
 
 -- the bytes begin with this line and its line feed, and the rest follows
-pub record BeginsWith (line : SignatureLine) (rest bytes : List ℕ) : Type 0 where
+pub record BeginsWithSignature (line : SignatureLine) (rest bytes : List ℕ) : Type 0 where
   pub good : IsSignatureLine line
-  pub text : bytes ≡ line_text line ++ 10 ∷ rest
+  pub text : bytes ≡ signature_line_text line ++ 10 ∷ rest
 
 -- line n, counted from 1, is the first that breaks the grammar: bytes follow the lines before it,
 -- and they begin with no line that these may have behind them
-pub record BreaksAt (n : ℕ) (bytes : List ℕ) : Type 0 where
+pub record BreaksSignaturesAt (n : ℕ) (bytes : List ℕ) : Type 0 where
   pub before : List SignatureLine
   pub rest : List ℕ
-  pub good : AreLines before
+  pub good : AreSignatureLines before
   pub text : bytes ≡ lines_text before ++ rest
   pub more : rest ≡ [] → ⊥
-  pub broken : (line : SignatureLine) (behind : List ℕ) → BeginsWith line behind rest → AreLines (before ++ line ∷ []) → ⊥
+  pub broken : (line : SignatureLine) (behind : List ℕ) → BeginsWithSignature line behind rest → AreSignatureLines (before ++ line ∷ []) → ⊥
   pub count : n ≡ length before + 1

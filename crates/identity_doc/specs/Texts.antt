@@ -21,10 +21,14 @@ abbrev pub IsNoJson : List ℕ → Type 0
 IsNoJson bytes = IsUtf8 bytes → read bytes ≡ None
 
 -- the bytes are the JSON of this document
-pub record IsText (keyring : Contents) (bytes : List ℕ) (doc : Doc) : Type 0 where
+pub record IsDocumentText (keyring : Contents) (bytes : List ℕ) (doc : Doc) : Type 0 where
   pub value : Data
   pub json : IsJson bytes value
   pub says : IsDocument value keyring doc
+
+-- some bytes are the JSON of this document
+abbrev pub IsSomeText : Contents → Doc → Type 0
+IsSomeText keyring doc = (bytes : List ℕ) × IsDocumentText keyring bytes doc
 
 -- the bytes are the JSON of a value of which this is the first check of documents that fails
 pub record IsBadText (keyring : Contents) (bytes : List ℕ) (why : DocFault) : Type 0 where

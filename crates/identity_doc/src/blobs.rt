@@ -1,11 +1,13 @@
 // Reading the blobs of an identity commit.
-ghost use Rattle.std.specs.Prelude.{◌≡◌, ℕ, List, IfOk, IfErr};
+ghost use Rattle.std.specs.Prelude.{IfOk, IfErr};
 ghost use Rattle.std.specs.Option.{ForSome};
-ghost use Rattle.identity_doc.specs.IdentityChains.{HasBlob, HasSignatures};
-ghost use Rattle.identity_doc.specs.IdentityFaults.{HasGetCause};
-ghost use Rattle.identity_doc.specs.IdentityReaders.{FailsBlob, FailsLines, FailsSignatures};
-ghost use Rattle.identity_doc.specs.Signatures.{AreLines, AreSignatures};
-ghost use Rattle.identity_doc.specs.Texts.{IsText};
+ghost use Rattle.commit_graph.specs.Faults.{KeepsObjects};
+ghost use Rattle.tree_entry.specs.Embedded as embedded;
+ghost use Rattle.identity_doc.specs.IdentityChains.{HasDocumentIn, HasSignatures};
+ghost use Rattle.identity_doc.specs.IdentityFaults.{id_fault_in};
+ghost use Rattle.identity_doc.specs.IdentityReaders.{FailsDocument, FailsSignatures};
+ghost use Rattle.identity_doc.specs.Signatures.{AreSignatureLines};
+ghost use Rattle.identity_doc.specs.Texts.{IsSomeText};
 
 use crate::doc::Doc;
 use crate::id_fault::IdFault;
@@ -26,14 +28,14 @@ pub(crate) fn document_in<O: Objects>(
     commit: Oid,
     blob: &Oid,
 ) -> Result<Doc, IdFault>
-    ensures told { ForSome (O.content objects.old) (λ m. IfOk result (λ doc.
-        (bytes : List ℕ) × HasBlob m blob.now bytes × IsText keyring.now bytes doc)) }
-    ensures refused { ForSome (O.content objects.old) (λ m.
-        IfErr result (FailsBlob m keyring.now commit blob.now)) }
-    ensures kept { O.content objects.new ≡ O.content objects.old }
-    ensures beside { O.beside objects.new ≡ O.beside objects.old }
-    ensures cause { HasGetCause (O.content objects.old)
-        (O.faults objects.old) (O.faults objects.new) result }
+    requires { ForSome (O.content objects.old) (λ m. embedded.HasDocumentBlob m commit blob.now) }
+    ensures told { ForSome (O.content objects.old)
+        (λ m. IfOk result (HasDocumentIn m keyring.now commit blob.now)) }
+    ensures text { IfOk result (IsSomeText keyring.now) }
+    ensures refused { ForSome (O.content objects.old)
+        (λ m. IfErr result (FailsDocument m keyring.now commit blob.now)) }
+    ensures keeps { KeepsObjects O.content O.beside O.places O.faults id_fault_in
+        objects.old objects.new result }
 {
     match objects.get(blob)? {
         Some((Kind::Blob, bytes)) => match document_of(alloc, keyring, bytes) {
@@ -53,15 +55,14 @@ fn lines_in<O: Objects>(
     commit: Oid,
     blob: &Oid,
 ) -> Result<Vec<SignatureLine>, IdFault>
-    ensures lines { IfOk result (λ lines. AreLines lines.items) }
-    ensures told { ForSome (O.content objects.old) (λ m. IfOk result (λ lines.
-        (bytes : List ℕ) × HasBlob m blob.now bytes × AreSignatures bytes lines.items)) }
+    requires { ForSome (O.content objects.old) (λ m. embedded.HasSignaturesBlob m commit blob.now) }
+    ensures lines { IfOk result (λ lines. AreSignatureLines lines.items) }
+    ensures told { ForSome (O.content objects.old)
+        (λ m. IfOk result (λ lines. HasSignatures m commit lines.items)) }
     ensures refused { ForSome (O.content objects.old)
-        (λ m. IfErr result (FailsLines m commit blob.now)) }
-    ensures kept { O.content objects.new ≡ O.content objects.old }
-    ensures beside { O.beside objects.new ≡ O.beside objects.old }
-    ensures cause { HasGetCause (O.content objects.old)
-        (O.faults objects.old) (O.faults objects.new) result }
+        (λ m. IfErr result (FailsSignatures m commit)) }
+    ensures keeps { KeepsObjects O.content O.beside O.places O.faults id_fault_in
+        objects.old objects.new result }
 {
     match objects.get(blob)? {
         Some((Kind::Blob, bytes)) => match read_signatures(alloc, bytes) {
@@ -79,15 +80,13 @@ pub(crate) fn signatures_at<O: Objects>(
     objects: &mut O,
     commit: Oid,
 ) -> Result<Vec<SignatureLine>, IdFault>
-    ensures lines { IfOk result (λ lines. AreLines lines.items) }
+    ensures lines { IfOk result (λ lines. AreSignatureLines lines.items) }
     ensures told { ForSome (O.content objects.old)
         (λ m. IfOk result (λ lines. HasSignatures m commit lines.items)) }
     ensures refused { ForSome (O.content objects.old)
         (λ m. IfErr result (FailsSignatures m commit)) }
-    ensures kept { O.content objects.new ≡ O.content objects.old }
-    ensures beside { O.beside objects.new ≡ O.beside objects.old }
-    ensures cause { HasGetCause (O.content objects.old)
-        (O.faults objects.old) (O.faults objects.new) result }
+    ensures keeps { KeepsObjects O.content O.beside O.places O.faults id_fault_in
+        objects.old objects.new result }
 {
     let Some(blob) = embedded(objects, &commit, b"signatures")? else {
         return Err(IdFault::BadSignatures(commit, 0));

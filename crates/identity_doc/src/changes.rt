@@ -1,10 +1,12 @@
 // The documents of identity commits, each by the rules of its place in a chain.
-ghost use Rattle.std.specs.Prelude.{◌≡◌, IfOk, IfErr, OnOk};
+ghost use Rattle.std.specs.Prelude.{IfOk, IfErr, OnOk};
 ghost use Rattle.std.specs.Option.{ForSome};
+ghost use Rattle.commit_graph.specs.Faults.{KeepsObjects};
 ghost use Rattle.tree_entry.specs.Embedded as embedded;
 ghost use Rattle.identity_doc.specs.IdentityChains.{HasDocument, HasDocumentIn, IsApproved};
-ghost use Rattle.identity_doc.specs.IdentityFaults.{FailsChange, FailsFirst, HasGetCause};
-ghost use Rattle.identity_doc.specs.IdentityReaders.{FailsApproval};
+ghost use Rattle.identity_doc.specs.IdentityFaults.{FailsChange, FailsFirst};
+ghost use Rattle.identity_doc.specs.IdentityFaults.{HasSomeDocument, id_fault_in};
+ghost use Rattle.identity_doc.specs.Texts.{IsSomeText};
 
 use crate::blobs::{document_in, signatures_at};
 use crate::doc::Doc;
@@ -26,12 +28,11 @@ pub(crate) fn first_document<O: Objects>(
 ) -> Result<Doc, IdFault>
     ensures told { ForSome (O.content objects.old)
         (λ m. IfOk result (HasDocumentIn m keyring.now root rid.now.0)) }
+    ensures text { IfOk result (IsSomeText keyring.now) }
     ensures refused { ForSome (O.content objects.old)
         (λ m. IfErr result (FailsFirst m keyring.now rid.now root)) }
-    ensures kept { O.content objects.new ≡ O.content objects.old }
-    ensures beside { O.beside objects.new ≡ O.beside objects.old }
-    ensures cause { HasGetCause (O.content objects.old)
-        (O.faults objects.old) (O.faults objects.new) result }
+    ensures keeps { KeepsObjects O.content O.beside O.places O.faults id_fault_in
+        objects.old objects.new result }
 {
     let Some(blob) = embedded(objects, &root, b"radicle.json")? else {
         return Err(IdFault::NoDocument(root));
@@ -53,15 +54,16 @@ fn approve<O: Objects>(
     commit: Oid,
     blob: &Oid,
 ) -> Result<(), IdFault>
-    requires { ForSome (O.content objects.old) (λ m. embedded.HasDocument m commit blob.now) }
+    requires named { ForSome (O.content objects.old)
+        (λ m. embedded.HasDocumentBlob m commit blob.now) }
+    requires has { ForSome (O.content objects.old)
+        (λ m. HasSomeDocument m keyring.now commit) }
     ensures told { ForSome (O.content objects.old)
         (λ m. OnOk result (IsApproved m keyring.now parent before.now commit)) }
     ensures refused { ForSome (O.content objects.old)
-        (λ m. IfErr result (FailsApproval m keyring.now parent before.now commit)) }
-    ensures kept { O.content objects.new ≡ O.content objects.old }
-    ensures beside { O.beside objects.new ≡ O.beside objects.old }
-    ensures cause { HasGetCause (O.content objects.old)
-        (O.faults objects.old) (O.faults objects.new) result }
+        (λ m. IfErr result (FailsChange m keyring.now parent before.now commit)) }
+    ensures keeps { KeepsObjects O.content O.beside O.places O.faults id_fault_in
+        objects.old objects.new result }
 {
     let lines = signatures_at(alloc, objects, commit)?;
     let message = change_message(alloc, &parent, blob)?;
@@ -85,14 +87,13 @@ pub(crate) fn changed_document<O: Objects>(
 ) -> Result<Doc, IdFault>
     ensures told { ForSome (O.content objects.old)
         (λ m. IfOk result (HasDocument m keyring.now commit)) }
+    ensures text { IfOk result (IsSomeText keyring.now) }
     ensures approved { ForSome (O.content objects.old)
         (λ m. OnOk result (IsApproved m keyring.now parent before.now commit)) }
     ensures refused { ForSome (O.content objects.old)
         (λ m. IfErr result (FailsChange m keyring.now parent before.now commit)) }
-    ensures kept { O.content objects.new ≡ O.content objects.old }
-    ensures beside { O.beside objects.new ≡ O.beside objects.old }
-    ensures cause { HasGetCause (O.content objects.old)
-        (O.faults objects.old) (O.faults objects.new) result }
+    ensures keeps { KeepsObjects O.content O.beside O.places O.faults id_fault_in
+        objects.old objects.new result }
 {
     let Some(blob) = embedded(objects, &commit, b"radicle.json")? else {
         return Err(IdFault::NoDocument(commit));

@@ -1,13 +1,16 @@
 // The document at the end of an identity chain.
-ghost use Rattle.std.specs.Prelude.{◌≡◌, ◌∷◌, [], IfOk, IfErr};
+ghost use Rattle.std.specs.Prelude.{◌∷◌, [], IfOk, IfErr};
 ghost use Rattle.std.specs.Option.{ForSome};
 ghost use Rattle.rad_base.specs.declared.names.Oid.{Oid};
+ghost use Rattle.commit_graph.specs.Faults.{KeepsObjects};
 ghost use Rattle.commit_graph.specs.Pairs.{as_commit};
 ghost use Rattle.commit_graph.specs.Closures.{IsClosed};
 ghost use Rattle.commit_graph.specs.Chains.{IsChain};
+ghost use Rattle.identity_doc.specs.Documents.{CanDecide};
 ghost use Rattle.identity_doc.specs.IdentityChains.{EndsLine, HasIdentity};
-ghost use Rattle.identity_doc.specs.IdentityFaults.{FailsLine, HasGetCause, IsIdFault};
-ghost use Rattle.identity_doc.specs.IdentityReaders.{IsWalkFault};
+ghost use Rattle.identity_doc.specs.IdentityFaults.{FailsLine, IsIdFault, id_fault_in};
+ghost use Rattle.identity_doc.specs.IdentityReaders.{RefusesTip};
+ghost use Rattle.identity_doc.specs.Texts.{IsSomeText};
 
 use crate::changes::{changed_document, first_document};
 use crate::doc::Doc;
@@ -23,11 +26,9 @@ use std::alloc::Global;
 fn commits_to<O: Objects>(alloc: Global, objects: &mut O, tip: &Oid) -> Result<Chain, IdFault>
     ensures told { ForSome (O.content objects.old) (λ m. IfOk result (λ commits.
         IsClosed m (as_commit tip.now ∷ []) × IsChain m commits tip.now)) }
-    ensures refused { ForSome (O.content objects.old) (λ m. IfErr result (IsWalkFault m tip.now)) }
-    ensures kept { O.content objects.new ≡ O.content objects.old }
-    ensures beside { O.beside objects.new ≡ O.beside objects.old }
-    ensures cause { HasGetCause (O.content objects.old)
-        (O.faults objects.old) (O.faults objects.new) result }
+    ensures refused { ForSome (O.content objects.old) (λ m. IfErr result (RefusesTip m tip.now)) }
+    ensures keeps { KeepsObjects O.content O.beside O.places O.faults id_fault_in
+        objects.old objects.new result }
 {
     let roots = [Root {
         oid: *tip,
@@ -55,12 +56,11 @@ fn last_document<O: Objects>(
     ensures told { ForSome (O.content objects.old) (λ m. (tip : Oid)
         → IsChain m (root ∷ later.now) tip
         → IfOk result (EndsLine m keyring.now rid.now (root ∷ later.now) tip)) }
+    ensures text { IfOk result (IsSomeText keyring.now) }
     ensures refused { ForSome (O.content objects.old) (λ m. (tip : Oid)
         → IsChain m (root ∷ later.now) tip → IfErr result (FailsLine m keyring.now rid.now tip)) }
-    ensures kept { O.content objects.new ≡ O.content objects.old }
-    ensures beside { O.beside objects.new ≡ O.beside objects.old }
-    ensures cause { HasGetCause (O.content objects.old)
-        (O.faults objects.old) (O.faults objects.new) result }
+    ensures keeps { KeepsObjects O.content O.beside O.places O.faults id_fault_in
+        objects.old objects.new result }
 {
     let mut doc = first_document(alloc, objects, keyring, rid, root)?;
     let mut parent = root;
@@ -95,12 +95,12 @@ pub fn id_chain<O: Objects>(
 ) -> Result<Doc, IdFault>
     ensures told { ForSome (O.content objects.old)
         (λ m. IfOk result (HasIdentity m keyring.now rid.now tip.now)) }
+    ensures text { IfOk result (IsSomeText keyring.now) }
+    ensures decides { IfOk result CanDecide }
     ensures refused { ForSome (O.content objects.old)
         (λ m. IfErr result (IsIdFault m keyring.now rid.now tip.now)) }
-    ensures kept { O.content objects.new ≡ O.content objects.old }
-    ensures beside { O.beside objects.new ≡ O.beside objects.old }
-    ensures cause { HasGetCause (O.content objects.old)
-        (O.faults objects.old) (O.faults objects.new) result }
+    ensures keeps { KeepsObjects O.content O.beside O.places O.faults id_fault_in
+        objects.old objects.new result }
 {
     let commits = commits_to(alloc, objects, tip)?;
     let Some((root, later)) = commits.as_slice().split_first() else {

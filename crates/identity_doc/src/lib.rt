@@ -23,6 +23,7 @@ pub use fault::{DocFault, Field};
 pub use id_fault::IdFault;
 pub use identity::id_chain;
 pub use laws::{
-    an_identity_is_not_refused, delegate_keys, one_document, one_identity, reachable_threshold,
+    an_identity_is_not_refused, delegate_keys, identities_stay, one_document, one_id_fault,
+    one_identity, reachable_threshold,
 };
 pub use visibility::Visibility;

@@ -2,7 +2,7 @@
 ghost use Rattle.std.specs.Prelude.{◌≡◌, ℕ, length, IfOk};
 ghost use Rattle.std.specs.List.{All};
 ghost use Rattle.identity_doc.specs.Majorities.{change_message, has_signed, majority, signed_by};
-ghost use Rattle.identity_doc.specs.Signatures.{AreLines};
+ghost use Rattle.identity_doc.specs.Signatures.{AreSignatureLines};
 
 use crate::signatures::SignatureLine;
 use keyring::Keyring;
@@ -29,7 +29,7 @@ pub(crate) fn change_message(
 
 // Whether an accepted line is of this key.
 fn has_signed(keyring: &Keyring, message: &[u8], lines: &[SignatureLine], key: &Nid) -> bool
-    requires { AreLines lines.now }
+    requires { AreSignatureLines lines.now }
     ensures { result ≡ has_signed keyring.now message.now lines.now key.now }
 {
     match lines.binary_search_by_key(key, |line| line.key) {
@@ -46,7 +46,7 @@ pub(crate) fn signed_by(
     lines: &[SignatureLine],
     delegates: &[Nid],
 ) -> usize
-    requires { AreLines lines.now }
+    requires { AreSignatureLines lines.now }
     ensures { result ≡ signed_by keyring.now message.now lines.now delegates.now }
 {
     let mut count = 0;

@@ -1,7 +1,7 @@
 // Reading a document from its text.
 ghost use Rattle.std.specs.Prelude.{IfOk, IfErr};
 ghost use Rattle.serde_json.specs.View.{view};
-ghost use Rattle.identity_doc.specs.Texts.{ExplainsText, ExplainsValue, IsJson, IsText};
+ghost use Rattle.identity_doc.specs.Texts.{ExplainsText, ExplainsValue, IsJson, IsDocumentText};
 
 use crate::doc::Doc;
 use crate::fault::DocFault;
@@ -34,7 +34,7 @@ fn value_of(alloc: Global, bytes: &[u8]) -> Result<Value, ReadFault>
 
 /// The document of a text, which is JSON as serde_json reads it.
 pub(crate) fn document_of(alloc: Global, keyring: &Keyring, bytes: &[u8]) -> Result<Doc, ReadFault>
-    ensures read { IfOk result (IsText keyring.now bytes.now) }
+    ensures read { IfOk result (IsDocumentText keyring.now bytes.now) }
     ensures refused { IfErr result (ExplainsText keyring.now bytes.now) }
 {
     let value = value_of(alloc, bytes)?;

@@ -1,7 +1,7 @@
 // Reading the signatures beside an identity document.
 ghost use Rattle.std.specs.Prelude.{◌≡◌, ◌↔◌, ℕ, List, IsTrue, IfOk, IfErr, IfSome, IfNone};
-ghost use Rattle.identity_doc.specs.Signatures.{BeginsWith, AreSignatures};
-ghost use Rattle.identity_doc.specs.SignatureReaders.{Explains, MayFollow};
+ghost use Rattle.identity_doc.specs.Signatures.{BeginsWithSignature, AreSignatures};
+ghost use Rattle.identity_doc.specs.SignatureReaders.{ExplainsSignatures, KeyMayFollow};
 ghost use Rattle.identity_doc.specs.declared.signatures.SignatureLine.{SignatureLine};
 
 use rad_base::{Nid, NoMemory, Sig, after, nid_text_front, sig_text_front};
@@ -37,9 +37,9 @@ impl<T: Drop> From<AllocFailed<T>> for SignaturesFault {
 
 // The line in front, and what stands behind its line feed.
 fn line_in_front(bytes: &[u8]) -> Option<(SignatureLine, &[u8])>
-    ensures found { IfSome result (λ x. BeginsWith x.0 x.1.now bytes.now) }
+    ensures found { IfSome result (λ x. BeginsWithSignature x.0 x.1.now bytes.now) }
     ensures none { IfNone result ((line : SignatureLine) (rest : List ℕ)
-        → BeginsWith line rest bytes.now → ⊥) }
+        → BeginsWithSignature line rest bytes.now → ⊥) }
 {
     let (key, rest) = nid_text_front(bytes)?;
     let rest = after(rest, b" ")?;
@@ -50,7 +50,7 @@ fn line_in_front(bytes: &[u8]) -> Option<(SignatureLine, &[u8])>
 
 // Whether a key is above that of the last line, if there is one.
 fn may_follow(lines: &[SignatureLine], key: &Nid) -> bool
-    ensures { IsTrue result ↔ MayFollow lines.now key.now }
+    ensures { IsTrue result ↔ KeyMayFollow lines.now key.now }
 {
     match lines.last() {
         None => true,
@@ -67,7 +67,7 @@ pub(crate) fn read_signatures(
     bytes: &[u8],
 ) -> Result<Vec<SignatureLine>, SignaturesFault>
     ensures read { IfOk result (λ lines. AreSignatures bytes.now lines.items) }
-    ensures refused { IfErr result (Explains bytes.now) }
+    ensures refused { IfErr result (ExplainsSignatures bytes.now) }
 {
     let mut lines = Vec::new(alloc);
     let mut rest = bytes;

@@ -19,8 +19,18 @@ name did:key:fed01ababababababababababababababababababababababababababababababab
 4343434343434343434343434343434343434343434343434343434343434343
 ";
 
-// How many delegates, the threshold, the default branch, and how many are allowed if it is private.
-type Summary<'a> = (usize, u8, Option<&'a str>, Option<usize>);
+// How many delegates, the threshold, the default branch, and those allowed if it is private.
+type Summary<'a> = (usize, u8, Option<&'a str>, Option<&'a [Nid]>);
+
+const NAMED: Nid = Nid([0x21; 32]);
+
+const OTHER: Nid = Nid([0x32; 32]);
+
+// A key that the keyring has no name for.
+const SPELLED: Nid = Nid([
+    0x21, 0x21, 0x21, 0x21, 0x21, 0x21, 0x21, 0x21, 0x21, 0x21, 0x21, 0x21, 0x21, 0x21, 0x21, 0x21,
+    0x21, 0x21, 0x20, 0x21, 0x21, 0x21, 0x21, 0x21, 0x21, 0x21, 0x21, 0x21, 0x21, 0x21, 0x21, 0x21,
+]);
 
 // Documents. A template has one byte for a piece that often stands: see `push_piece`.
 const READ: [(&[u8], Summary<'static>); 45] = [
@@ -61,18 +71,18 @@ const READ: [(&[u8], Summary<'static>); 45] = [
     ),
     (b"`#\"\xc3\xa4\"}}}", (1, 1, Some("ä"), None)),
     (br#"`^?"public","allow":3}}"#, (1, 1, Some("master"), None)),
-    (br#"`^?"private"}}"#, (1, 1, Some("master"), Some(0))),
+    (br#"`^?"private"}}"#, (1, 1, Some("master"), Some(&[]))),
     (
-        br#"`^?"private","allow":["did:key:fed01~","named"]}}"#,
-        (1, 1, Some("master"), Some(2)),
+        br#"`^?"private","allow":["did:key:fed01~","other"]}}"#,
+        (1, 1, Some("master"), Some(&[NAMED, OTHER])),
     ),
     (
         br#"`^?"private","allow":["did:key:fed01~","did:key:fed01~"]}}"#,
-        (1, 1, Some("master"), Some(2)),
+        (1, 1, Some("master"), Some(&[NAMED, NAMED])),
     ),
     (
         br#"`^?"private","allow":[]}}"#,
-        (1, 1, Some("master"), Some(0)),
+        (1, 1, Some("master"), Some(&[])),
     ),
     (
         br#"`^,"x":[{"y":[1.5,null,true,false,"\uD83D\uDE00\/"]}]}"#,
@@ -138,7 +148,7 @@ const READ: [(&[u8], Summary<'static>); 45] = [
     (
         b"`^?\"private\",\"allow\":[\"did:key:fed0121212121212121212121212121212121212120212\
         12121212121212121212121\",\"did:key:fed01~\"]}}",
-        (1, 1, Some("master"), Some(2)),
+        (1, 1, Some("master"), Some(&[SPELLED, NAMED])),
     ),
 ];
 
@@ -462,7 +472,7 @@ fn summary(doc: &Doc) -> Summary<'_> {
     };
     let allowed = match &doc.visibility {
         Visibility::Public => None,
-        Visibility::Private(nids) => Some(nids.as_slice().len()),
+        Visibility::Private(nids) => Some(nids.as_slice()),
     };
     (
         doc.delegates.as_slice().len(),

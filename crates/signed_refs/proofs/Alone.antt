@@ -1,18 +1,12 @@
 -- What a commit says, and why it is refused, exclude each other.
 use Rattle.std.proofs.Common.{◌≡◌, List, [], ◌∷◌, refl, sym, ap, ◌∙◌}
-use Rattle.std.specs.Ordering.{ordering_reverse}
-use Rattle.std.specs.declared.cmp.Ordering.{Ordering}
-use Rattle.std.specs.declared.cmp.Ordering.TheVariants.{Less, Equal, Greater}
 use Rattle.rad_base.specs.declared.names.Nid.{Nid}
 use Rattle.rad_base.specs.declared.names.Oid.{Oid}
 use Rattle.rad_base.specs.declared.names.Rid.{Rid}
-use Rattle.rad_base.specs.Order.{oid_cmp}
-use Rattle.rad_base.proofs.NameOrder.{oid_exact, oid_total}
-use Rattle.commit_graph.specs.Closures.{IsClosed, IsLeast, IsMissingName, IsUnfitName}
+use Rattle.commit_graph.specs.Closures.{IsMissingName, IsUnfitName}
 use Rattle.commit_graph.specs.Objects.{ObjectMap}
 use Rattle.commit_graph.specs.Pairs.{as_commit}
-use Rattle.commit_graph.specs.declared.root.Root.{Root}
-use Rattle.commit_graph.proofs.PairSteps.{missing_unfit, unfit_apart}
+use Rattle.commit_graph.proofs.OneAnswer.{none_missing, none_unfit, one_least}
 use Rattle.keyring.specs.Contents.{Contents}
 use Rattle.signed_refs.specs.Lines.{Line}
 use Rattle.signed_refs.specs.Refusals.{IsFault, Refuses}
@@ -27,16 +21,6 @@ pub one_signed : (objects : ObjectMap) (keyring : Contents) (rid : Rid) (node : 
 one_signed objects keyring rid node commit a b s t =
     s.says ∙ ap (λ (f : Sigrefs). f.refs) (one_sigrefs objects commit s.found t.found s.are.has t.are.has) ∙ sym t.says
 
--- what is closed misses nothing
-none_missing : (objects : ObjectMap) (roots : List Root) (oid : Oid) → IsClosed objects roots → IsMissingName objects roots oid → ⊥
-none_missing objects roots oid closed h =
-    let held = closed h.pair h.reached in missing_unfit h.holds held.fit
-
--- and has no unfit object
-none_unfit : (objects : ObjectMap) (roots : List Root) (oid : Oid) → IsClosed objects roots → IsUnfitName objects roots oid → ⊥
-none_unfit objects roots oid closed h =
-    let held = closed h.pair h.reached in unfit_apart h.holds held.fit
-
 -- a commit that says its refs is refused by a fault alone
 pub refused_by_fault : (objects : ObjectMap) (keyring : Contents) (rid : Rid) (node : Nid) (commit : Oid) (refs : List Line) (fault : SigFault)
     → Signed objects keyring rid node commit refs → Refuses objects keyring rid node commit fault → IsFault fault
@@ -46,15 +30,6 @@ refused_by_fault objects keyring rid node commit refs BadSigrefs s h = absurd (h
 refused_by_fault objects keyring rid node commit refs NotAccepted s h = absurd (h.none s.found s.are)
 refused_by_fault objects keyring rid node commit refs Grafted s h = absurd (h.none refs s)
 refused_by_fault objects keyring rid node commit refs (Get why) s h = (why, refl)
-
--- the least name is one
-one_least : (P : Oid → Type 0) (a b : Oid) → IsLeast P a → IsLeast P b → a ≡ b
-one_least P a b h k = compared (oid_cmp a b) refl
-  where
-    compared : (o : Ordering) → oid_cmp a b ≡ o → a ≡ b
-    compared Less e = absurd (k.least a h.holds e)
-    compared Equal e = oid_exact a b e
-    compared Greater e = absurd (h.least b k.holds (oid_total.antisymm b a ∙ ap ordering_reverse e))
 
 -- a commit is refused for one reason, faults apart
 pub one_refusal : (objects : ObjectMap) (keyring : Contents) (rid : Rid) (node : Nid) (commit : Oid) (a b : SigFault)

@@ -1,7 +1,10 @@
 pub mod Alone
 pub mod Compared
+pub mod Growing
 pub mod OneLine
 pub mod OneName
 pub mod OneSigrefs
+pub mod Saying
+pub mod Searching
 pub mod Spelled
 pub mod Told

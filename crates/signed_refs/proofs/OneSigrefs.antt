@@ -9,7 +9,7 @@ use Rattle.commit_graph.specs.Objects.{ObjectMap}
 use Rattle.keyring.specs.Contents.{Contents}
 use Rattle.tree_entry.proofs.OneEntry.{one_commit_entry, one_content}
 use Rattle.signed_refs.specs.Lines.{SpellsRefs}
-use Rattle.signed_refs.specs.Signed.{HasAccepted, HasBlob, HasSigrefs, IsAccepted, Sigrefs}
+use Rattle.signed_refs.specs.Signed.{HasAccepted, HasBlob, HasSigrefs, IsAcceptedBy, Sigrefs}
 use Rattle.signed_refs.proofs.Compared.{one_list}
 
 -- the blob of a name has one content
@@ -39,6 +39,6 @@ one_sigrefs objects commit a b h k =
 
 -- what is accepted of a commit is what was found
 pub accepted_is : (objects : ObjectMap) (keyring : Contents) (node : Nid) (commit : Oid) (found other : Sigrefs) → HasSigrefs objects commit found
-    → HasAccepted objects keyring node commit other → IsAccepted keyring node found
+    → HasAccepted objects keyring node commit other → IsAcceptedBy keyring node found
 accepted_is objects keyring node commit found other h a =
-    subst (IsAccepted keyring node) (one_sigrefs objects commit other found a.has h) a.accepted
+    subst (IsAcceptedBy keyring node) (one_sigrefs objects commit other found a.has h) a.accepted

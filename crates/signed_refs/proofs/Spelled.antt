@@ -5,13 +5,13 @@ use Rattle.std.proofs.lemmas.Grind.{flat_map-append}
 use Rattle.rad_base.proofs.EachItem.{each_more}
 use Rattle.hex.specs.Hex.{encode_lower}
 use Rattle.git_object.specs.Grammar.{IsBelow}
-use Rattle.signed_refs.specs.Lines.{IsLine, Line, RiseFrom, SpellsRefs, SpellsTo, last_from, line_text, refs_text}
-use Rattle.signed_refs.specs.Readings.{BreaksAt, Continues, HasTooMany}
+use Rattle.signed_refs.specs.Lines.{IsRefLine, Line, RiseFrom, SpellsRefs, SpellsTo, last_from, ref_line_text, refs_text}
+use Rattle.signed_refs.specs.Readings.{BreaksRefsAt, Continues, HasTooMany}
 
 -- one more line behind others
-pub text_more : (lines : List Line) (line : Line) → refs_text (lines ++ line ∷ []) ≡ refs_text lines ++ line_text line
+pub text_more : (lines : List Line) (line : Line) → refs_text (lines ++ line ∷ []) ≡ refs_text lines ++ ref_line_text line
 text_more lines line =
-    flat_map-append line_text lines (line ∷ []) ∙ ap (λ (l : List ℕ). refs_text lines ++ l) (append-nil (line_text line))
+    flat_map-append ref_line_text lines (line ∷ []) ∙ ap (λ (l : List ℕ). refs_text lines ++ l) (append-nil (ref_line_text line))
 
 -- a name above the last keeps the order
 pub rise_more : (before : Option (List ℕ)) (lines : List Line) (line : Line) → RiseFrom before lines → IsBelow (last_from before lines) line.0
@@ -27,10 +27,10 @@ spelled_none bytes = record { each = tt; rising = tt; text = refl }
 pub spelled_more : (lines : List Line) (line : Line) (behind rest bytes : List ℕ) → SpellsTo lines rest bytes → Continues lines line behind rest
     → SpellsTo (lines ++ line ∷ []) behind bytes
 spelled_more lines line behind rest bytes s c = record {
-  each = each_more IsLine lines line s.each c.good;
+  each = each_more IsRefLine lines line s.each c.good;
   rising = rise_more None lines line s.rising c.above;
   text =
-      s.text ∙ ap (λ (l : List ℕ). refs_text lines ++ l) c.text ∙ sym (append_assoc (refs_text lines) (line_text line) behind)
+      s.text ∙ ap (λ (l : List ℕ). refs_text lines ++ l) c.text ∙ sym (append_assoc (refs_text lines) (ref_line_text line) behind)
       ∙ ap (λ (l : List ℕ). l ++ behind) (sym (text_more lines line));
 }
 
@@ -39,17 +39,17 @@ pub spelled_all : (lines : List Line) (rest bytes : List ℕ) → SpellsTo lines
 spelled_all lines rest bytes s e few = record { spelled = subst (λ (l : List ℕ). SpellsTo lines l bytes) e s; few = few }
 
 -- a line has bytes
-pub line_is_longer : (line : Line) (behind bytes : List ℕ) → bytes ≡ line_text line ++ behind → length behind < length bytes
+pub line_is_longer : (line : Line) (behind bytes : List ℕ) → bytes ≡ ref_line_text line ++ behind → length behind < length bytes
 line_is_longer line behind bytes e =
-    omega (arith, ap length e, length-append (line_text line) behind, length-append (encode_lower line.1.0) (32 ∷ (line.0 ++ 10 ∷ [])))
+    omega (arith, ap length e, length-append (ref_line_text line) behind, length-append (encode_lower line.1.0) (32 ∷ (line.0 ++ 10 ∷ [])))
 
 -- no line stands in front of nothing
-pub no_line : (line : Line) (behind : List ℕ) → [] ≡ line_text line ++ behind → ⊥
+pub no_line : (line : Line) (behind : List ℕ) → [] ≡ ref_line_text line ++ behind → ⊥
 no_line line behind e = omega (arith, line_is_longer line behind [] e)
 
 -- the next line is broken
 pub breaks_here : (lines : List Line) (rest bytes : List ℕ) → SpellsTo lines rest bytes → (rest ≡ [] → ⊥)
-    → ((line : Line) (behind : List ℕ) → Continues lines line behind rest → ⊥) → length lines < 65536 → BreaksAt (length lines + 1) bytes
+    → ((line : Line) (behind : List ℕ) → Continues lines line behind rest → ⊥) → length lines < 65536 → BreaksRefsAt (length lines + 1) bytes
 breaks_here lines rest bytes s more none few = record {
   before = lines;
   rest = rest;

@@ -8,23 +8,20 @@ use Rattle.rad_base.specs.declared.names.Sig.{Sig}
 use Rattle.rad_base.specs.Sizes.{IsSig}
 use Rattle.git_object.specs.declared.kind.Kind.TheVariants as kinds
 use Rattle.rad_base.proofs.Options.{some_is}
+use Rattle.commit_graph.specs.Closures.{IsClosedCommit}
 use Rattle.commit_graph.specs.Objects.{ObjectMap}
-use Rattle.commit_graph.proofs.Causes.{cause_later}
 use Rattle.keyring.specs.Contents.{Contents, accepts}
 use Rattle.tree_entry.specs.Embedded.{IsIdentityRoot}
 use Rattle.tree_entry.specs.Entries.{Finds, HasCommitEntry}
 use Rattle.tree_entry.proofs.OneEntry.{one_commit_entry}
 use Rattle.signed_refs.specs.Lines.{Line, SpellsRefs}
-use Rattle.signed_refs.specs.Refusals.{IsGetCause}
-use Rattle.signed_refs.specs.Signed.{HasBlob, HasSigrefs, IsClosedCommit, KeepsRoot, Signed, Sigrefs}
+use Rattle.signed_refs.specs.Signed.{HasBlob, HasSigrefs, KeepsRoot, Signed, Sigrefs}
 use Rattle.signed_refs.specs.Refusals.{Refuses}
-use Rattle.signed_refs.specs.SignedParts.{AreRefs, BecomesFault, FindsSignature, IsAcceptedAs, RefusesText, RefusesUnaccepted}
+use Rattle.signed_refs.specs.SignedParts.{FindsSignature, IsAcceptedAs, RefusesCommit, RefusesText, sig_fault}
 use Rattle.signed_refs.specs.declared.fault.SigFault.{SigFault}
 use Rattle.signed_refs.specs.declared.fault.SigFault.TheVariants.{BadObject, BadSigrefs, Get, Grafted, Missing, NotAccepted}
-use Rattle.signed_refs.specs.Readings.{Explains}
-use Rattle.signed_refs.specs.declared.fault.RefsFault.{RefsFault}
-use Rattle.signed_refs.specs.declared.fault.RefsFault.TheVariants as reading
-use Rattle.signed_refs.proofs.Compared.{not_broken, not_too_many}
+use Rattle.signed_refs.specs.declared.accepting.SigrefsFault.{SigrefsFault}
+use Rattle.signed_refs.specs.declared.accepting.SigrefsFault.TheVariants as sigrefs
 use Rattle.signed_refs.proofs.OneSigrefs.{accepted_is, one_blob, one_sigrefs}
 
 -- ---- blobs
@@ -87,22 +84,19 @@ accepted_are objects keyring node commit r sig text refs finds some blob lines a
 )
 
 -- refused bytes are those of no accepted refs
-pub text_refused : (objects : ObjectMap) (keyring : Contents) (node : Nid) (commit : Oid) (r : Option Sig) (sig : Sig) (text : List ℕ) (fault : SigFault)
+pub text_refused : (objects : ObjectMap) (keyring : Contents) (node : Nid) (commit : Oid) (r : Option Sig) (sig : Sig) (text : List ℕ) (fault : SigrefsFault)
     → FindsSignature objects commit r → r ≡ Some sig → HasBlob objects commit (codes "refs") text → RefusesText keyring node sig text fault
-    → RefusesUnaccepted objects keyring node commit fault
-text_refused objects keyring node commit r sig text (Missing oid) finds some blob h = h
-text_refused objects keyring node commit r sig text (BadObject oid) finds some blob h = h
-text_refused objects keyring node commit r sig text BadSigrefs finds some blob h = λ found has.
+    → RefusesCommit objects keyring node commit fault
+text_refused objects keyring node commit r sig text sigrefs.Bad finds some blob h = λ found has.
     h (found.refs, subst (λ (l : List ℕ). SpellsRefs found.refs l) (one_blob objects commit (codes "refs") found.text text has.refs blob) has.lines)
-text_refused objects keyring node commit r sig text NotAccepted finds some blob h =
+text_refused objects keyring node commit r sig text sigrefs.NotAccepted finds some blob h =
     let has = sigrefs_are objects commit r sig text h.0.0 finds some blob h.0.1 in
     ((_, has), λ other a. h.1 (accepted_is objects keyring node commit _ other has a))
-text_refused objects keyring node commit r sig text Grafted finds some blob h = h
-text_refused objects keyring node commit r sig text (Get why) finds some blob h = tt
+text_refused objects keyring node commit r sig text (sigrefs.Get why) finds some blob h = tt
 
 -- what was read of the bytes and accepted
 pub told_accepted : (objects : ObjectMap) (keyring : Contents) (node : Nid) (commit : Oid) (r : Option Sig) (sig : Sig) (text : List ℕ)
-    (answer : Result (List Line) SigFault) → FindsSignature objects commit r → r ≡ Some sig → HasBlob objects commit (codes "refs") text
+    (answer : Result (List Line) SigrefsFault) → FindsSignature objects commit r → r ≡ Some sig → HasBlob objects commit (codes "refs") text
     → IfOk answer (λ refs. SpellsRefs refs text) → OnOk answer (IsTrue (accepts keyring node text sig))
     → IfOk answer (IsAcceptedAs objects keyring node commit)
 told_accepted objects keyring node commit r sig text (Ok refs) finds some blob lines accepted =
@@ -111,32 +105,20 @@ told_accepted objects keyring node commit r sig text (Err fault) finds some blob
 
 -- and why it was not
 pub told_refused : (objects : ObjectMap) (keyring : Contents) (node : Nid) (commit : Oid) (r : Option Sig) (sig : Sig) (text : List ℕ)
-    (answer : Result (List Line) SigFault) → FindsSignature objects commit r → r ≡ Some sig → HasBlob objects commit (codes "refs") text
-    → IfErr answer (RefusesText keyring node sig text) → IfErr answer (RefusesUnaccepted objects keyring node commit)
+    (answer : Result (List Line) SigrefsFault) → FindsSignature objects commit r → r ≡ Some sig → HasBlob objects commit (codes "refs") text
+    → IfErr answer (RefusesText keyring node sig text) → IfErr answer (RefusesCommit objects keyring node commit)
 told_refused objects keyring node commit r sig text (Ok refs) finds some blob h = tt
 told_refused objects keyring node commit r sig text (Err fault) finds some blob h =
     text_refused objects keyring node commit r sig text fault finds some blob h
 
--- bytes that are not read are refused
-pub reading_refused : (keyring : Contents) (node : Nid) (sig : Sig) (bytes : List ℕ) (why : RefsFault) (fault : SigFault)
-    → BecomesFault why fault → Explains bytes why → RefusesText keyring node sig bytes fault
-reading_refused keyring node sig bytes (reading.BadLine n) fault e breaks =
-    subst (RefusesText keyring node sig bytes) (sym e) (λ (h : AreRefs bytes). not_broken bytes h.0 n h.1 breaks)
-reading_refused keyring node sig bytes reading.TooMany fault e many =
-    subst (RefusesText keyring node sig bytes) (sym e) (λ (h : AreRefs bytes). not_too_many bytes h.0 h.1 many)
-reading_refused keyring node sig bytes reading.NoMemory fault e h = subst (RefusesText keyring node sig bytes) (sym e) refl
-
 -- ---- the whole
 
 -- a refusal of a closed commit
-pub unaccepted_refuses : (objects : ObjectMap) (keyring : Contents) (rid : Rid) (node : Nid) (commit : Oid) (fault : SigFault)
-    → IsClosedCommit objects commit → RefusesUnaccepted objects keyring node commit fault → Refuses objects keyring rid node commit fault
-unaccepted_refuses objects keyring rid node commit (Missing oid) closed h = absurd h
-unaccepted_refuses objects keyring rid node commit (BadObject oid) closed h = absurd h
-unaccepted_refuses objects keyring rid node commit BadSigrefs closed h = record { closed = closed; none = h }
-unaccepted_refuses objects keyring rid node commit NotAccepted closed h = record { closed = closed; found = h.0.0; has = h.0.1; none = h.1 }
-unaccepted_refuses objects keyring rid node commit Grafted closed h = absurd h
-unaccepted_refuses objects keyring rid node commit (Get why) closed h = tt
+pub unaccepted_refuses : (objects : ObjectMap) (keyring : Contents) (rid : Rid) (node : Nid) (commit : Oid) (fault : SigrefsFault)
+    → IsClosedCommit objects commit → RefusesCommit objects keyring node commit fault → Refuses objects keyring rid node commit (sig_fault fault)
+unaccepted_refuses objects keyring rid node commit sigrefs.Bad closed h = record { closed = closed; none = h }
+unaccepted_refuses objects keyring rid node commit sigrefs.NotAccepted closed h = record { closed = closed; found = h.0.0; has = h.0.1; none = h.1 }
+unaccepted_refuses objects keyring rid node commit (sigrefs.Get why) closed h = tt
 
 -- refs whose root is none of the repository are grafted
 pub grafted : (objects : ObjectMap) (keyring : Contents) (rid : Rid) (node : Nid) (commit : Oid) (refs : List Line) → IsClosedCommit objects commit
@@ -155,18 +137,6 @@ grafted objects keyring rid node commit refs closed a none = record {
 pub is_signed : (objects : ObjectMap) (keyring : Contents) (rid : Rid) (node : Nid) (commit : Oid) (refs : List Line) → IsClosedCommit objects commit
     → IsAcceptedAs objects keyring node commit refs → KeepsRoot objects rid refs → Signed objects keyring rid node commit refs
 is_signed objects keyring rid node commit refs closed a root = record { closed = closed; found = a.0; are = a.1; says = a.2; root = root }
-
--- ---- causes
-
--- the cause of a fault in a later call is one over all calls
-pub sig_cause_later : (content later : Option ObjectMap) (before mid now : ℕ) (fault : SigFault) → later ≡ content → before ≤ mid
-    → IsGetCause later mid now fault → IsGetCause content before now fault
-sig_cause_later content later before mid now (Missing oid) e le h = tt
-sig_cause_later content later before mid now (BadObject oid) e le h = tt
-sig_cause_later content later before mid now BadSigrefs e le h = tt
-sig_cause_later content later before mid now NotAccepted e le h = tt
-sig_cause_later content later before mid now Grafted e le h = tt
-sig_cause_later content later before mid now (Get why) e le h = cause_later content later before mid now why e le h
 
 -- ---- the root
 

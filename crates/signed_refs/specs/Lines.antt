@@ -1,6 +1,9 @@
 -- The lines of signed refs.
 use Rattle.std.specs.Prelude.{◌≡◌, ℕ, ◌≤◌, List, [], ◌∷◌, ◌++◌, length, codes, Option, None, Some}
+use Rattle.std.specs.Cmp.Lexicographic.{slice_cmp}
 use Rattle.std.specs.List.{AllByRecursion, flat_map}
+use Rattle.std.specs.Ordering.{nat_cmp}
+use Rattle.std.specs.declared.cmp.Ordering.{Ordering}
 use Rattle.hex.specs.Hex.{encode_lower}
 use Rattle.rad_base.specs.Lists.{BeginsWith}
 use Rattle.rad_base.specs.Sizes.{IsOid}
@@ -19,17 +22,21 @@ pub record IsSignedName (name : List ℕ) : Type 0 where
   pub other : name ≡ codes "refs/rad/sigrefs" → ⊥
 
 -- a name that may be signed, and the 20 bytes of an object's name
-pub record IsLine (line : Line) : Type 0 where
+pub record IsRefLine (line : Line) : Type 0 where
   pub name : IsSignedName line.0
   pub oid : IsOid line.1
 
 -- the 40 digits of the object's name, a space, the ref's name and a line feed
-abbrev pub line_text : Line → List ℕ
-line_text line = encode_lower line.1.0 ++ 32 ∷ (line.0 ++ 10 ∷ [])
+abbrev pub ref_line_text : Line → List ℕ
+ref_line_text line = encode_lower line.1.0 ++ 32 ∷ (line.0 ++ 10 ∷ [])
 
 -- the texts of the lines, one behind the other
 abbrev pub refs_text : List Line → List ℕ
-refs_text lines = flat_map line_text lines
+refs_text lines = flat_map ref_line_text lines
+
+-- how the name of a line compares with a name, by their bytes
+abbrev pub order_of : List ℕ → Line → Ordering
+order_of name line = slice_cmp nat_cmp line.0 name
 
 -- the name of the last line, or the one before them all
 abbrev pub last_from : Option (List ℕ) → List Line → Option (List ℕ)
@@ -46,14 +53,20 @@ abbrev pub AreRising : List Line → Type 0
 AreRising lines = RiseFrom None lines
 
 -- the name is above those of the lines
-abbrev pub IsAbove : List Line → List ℕ → Type 0
-IsAbove lines name = IsBelow (last_from None lines) name
+abbrev pub IsAboveNames : List Line → List ℕ → Type 0
+IsAboveNames lines name = IsBelow (last_from None lines) name
 
 -- lines of their form, their names strictly rising, and the bytes that spell them with a rest
 pub record SpellsTo (lines : List Line) (rest bytes : List ℕ) : Type 0 where
-  pub each : AllByRecursion IsLine lines
+  pub each : AllByRecursion IsRefLine lines
   pub rising : AreRising lines
   pub text : bytes ≡ refs_text lines ++ rest
+
+-- at most 65,536 lines of their form, their names strictly rising
+pub record AreRefs (lines : List Line) : Type 0 where
+  pub each : AllByRecursion IsRefLine lines
+  pub rising : AreRising lines
+  pub few : length lines ≤ 65536
 
 -- the bytes of signed refs that have these lines
 pub record SpellsRefs (lines : List Line) (bytes : List ℕ) : Type 0 where

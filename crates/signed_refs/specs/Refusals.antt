@@ -1,17 +1,16 @@
 -- Why a commit's refs are refused: the first of the demands that fails.
-use Rattle.std.specs.Prelude.{◌≡◌, ℕ, ◌≤◌, List, [], ◌∷◌, Option, Result, IfErr}
+use Rattle.std.specs.Prelude.{◌≡◌, List, [], ◌∷◌, Option, None, Some}
 use Rattle.rad_base.specs.declared.names.Nid.{Nid}
 use Rattle.rad_base.specs.declared.names.Oid.{Oid}
 use Rattle.rad_base.specs.declared.names.Rid.{Rid}
-use Rattle.commit_graph.specs.Closures.{IsClosure}
-use Rattle.commit_graph.specs.Faults.{IsCause}
+use Rattle.commit_graph.specs.Closures.{IsClosedCommit, IsClosure}
 use Rattle.commit_graph.specs.Objects.{ObjectMap}
 use Rattle.commit_graph.specs.Pairs.{as_commit}
 use Rattle.commit_graph.specs.declared.fault.GetFault.{GetFault}
 use Rattle.commit_graph.specs.declared.answer.Closure.TheVariants as closures
 use Rattle.keyring.specs.Contents.{Contents}
 use Rattle.signed_refs.specs.Lines.{Line}
-use Rattle.signed_refs.specs.Signed.{HasAccepted, HasSigrefs, IsClosedCommit, Signed, Sigrefs}
+use Rattle.signed_refs.specs.Signed.{HasAccepted, HasSigrefs, Signed, Sigrefs}
 use Rattle.signed_refs.specs.declared.fault.SigFault.{SigFault}
 use Rattle.signed_refs.specs.declared.fault.SigFault.TheVariants.{BadObject, BadSigrefs, Get, Grafted, Missing, NotAccepted}
 
@@ -47,16 +46,11 @@ Refuses objects keyring rid node commit (Get why) = Unit {0}
 abbrev pub IsFault : SigFault → Type 0
 IsFault fault = (why : GetFault) × (fault ≡ Get why)
 
--- the cause of a fault that a look-up met
-abbrev pub IsGetCause : Option ObjectMap → ℕ → ℕ → SigFault → Type 0
-IsGetCause content before now (Missing oid) = Unit {0}
-IsGetCause content before now (BadObject oid) = Unit {0}
-IsGetCause content before now BadSigrefs = Unit {0}
-IsGetCause content before now NotAccepted = Unit {0}
-IsGetCause content before now Grafted = Unit {0}
-IsGetCause content before now (Get why) = IsCause content before now why
-
--- the count of faults never falls, and a fault that a look-up met has its cause
-pub record HasSigCause {T : Type 0} (content : Option ObjectMap) (before now : ℕ) (result : Result T SigFault) : Type 0 where
-  pub later : before ≤ now
-  pub cause : IfErr result (IsGetCause content before now)
+-- the fault of objects that a refusal is
+abbrev pub sig_fault_in : SigFault → Option GetFault
+sig_fault_in (Missing oid) = None
+sig_fault_in (BadObject oid) = None
+sig_fault_in BadSigrefs = None
+sig_fault_in NotAccepted = None
+sig_fault_in Grafted = None
+sig_fault_in (Get why) = Some why

@@ -1,14 +1,13 @@
 -- What a node's signed commit says of its refs.
-use Rattle.std.specs.Prelude.{◌≡◌, ℕ, List, [], ◌∷◌, Contains, codes, IsTrue, Some}
+use Rattle.std.specs.Prelude.{◌≡◌, ℕ, List, Contains, codes, IsTrue, Some}
 use Rattle.rad_base.specs.declared.names.Nid.{Nid}
 use Rattle.rad_base.specs.declared.names.Oid.{Oid}
 use Rattle.rad_base.specs.declared.names.Rid.{Rid}
 use Rattle.rad_base.specs.declared.names.Sig.{Sig}
 use Rattle.rad_base.specs.Sizes.{IsSig}
 use Rattle.git_object.specs.declared.kind.Kind.TheVariants as kinds
-use Rattle.commit_graph.specs.Closures.{IsClosed}
+use Rattle.commit_graph.specs.Closures.{IsClosedCommit}
 use Rattle.commit_graph.specs.Objects.{ObjectMap}
-use Rattle.commit_graph.specs.Pairs.{as_commit}
 use Rattle.keyring.specs.Contents.{Contents, accepts}
 use Rattle.tree_entry.specs.Embedded.{IsIdentityRoot}
 use Rattle.tree_entry.specs.Entries.{HasCommitEntry}
@@ -34,21 +33,17 @@ pub record HasSigrefs (objects : ObjectMap) (commit : Oid) (found : Sigrefs) : T
   pub lines : SpellsRefs found.refs found.text
 
 -- the keyring accepts the node's signature over the bytes of the refs
-abbrev pub IsAccepted : Contents → Nid → Sigrefs → Type 0
-IsAccepted keyring node found = IsTrue (accepts keyring node found.text found.sig)
+abbrev pub IsAcceptedBy : Contents → Nid → Sigrefs → Type 0
+IsAcceptedBy keyring node found = IsTrue (accepts keyring node found.text found.sig)
 
 -- a line of the identity root, where there is one, names one of the repository
 abbrev pub KeepsRoot : ObjectMap → Rid → List Line → Type 0
 KeepsRoot objects rid refs = (oid : Oid) → Contains refs (codes "refs/rad/root", oid) → IsIdentityRoot objects rid oid
 
--- the commit and all that it reaches is there and well formed
-abbrev pub IsClosedCommit : ObjectMap → Oid → Type 0
-IsClosedCommit objects commit = IsClosed objects (as_commit commit ∷ [])
-
 -- the commit has signed refs that the keyring accepts as the node's
 pub record HasAccepted (objects : ObjectMap) (keyring : Contents) (node : Nid) (commit : Oid) (found : Sigrefs) : Type 0 where
   pub has : HasSigrefs objects commit found
-  pub accepted : IsAccepted keyring node found
+  pub accepted : IsAcceptedBy keyring node found
 
 -- the node's commit says these refs, and the keyring stands behind it
 pub record Signed (objects : ObjectMap) (keyring : Contents) (rid : Rid) (node : Nid) (commit : Oid) (refs : List Line) : Type 0 where

@@ -6,21 +6,22 @@ use Rattle.rad_base.specs.declared.names.Rid.{Rid}
 use Rattle.rad_base.specs.declared.names.Sig.{Sig}
 use Rattle.rad_base.specs.Sizes.{IsSig}
 use Rattle.commit_graph.specs.Objects.{ObjectMap}
+use Rattle.commit_graph.specs.declared.fault.GetFault.{GetFault}
 use Rattle.commit_graph.specs.declared.fault.GetFault.TheVariants as gets
 use Rattle.keyring.specs.Contents.{Contents, accepts}
 use Rattle.signed_refs.specs.Lines.{Line, SpellsRefs}
 use Rattle.signed_refs.specs.Refusals.{Refuses}
 use Rattle.signed_refs.specs.Signed.{HasAccepted, HasBlob, HasSigrefs, Sigrefs}
-use Rattle.signed_refs.specs.declared.fault.RefsFault.{RefsFault}
-use Rattle.signed_refs.specs.declared.fault.RefsFault.TheVariants as reading
+use Rattle.signed_refs.specs.declared.accepting.SigrefsFault.{SigrefsFault}
+use Rattle.signed_refs.specs.declared.accepting.SigrefsFault.TheVariants as sigrefs
 use Rattle.signed_refs.specs.declared.fault.SigFault.{SigFault}
-use Rattle.signed_refs.specs.declared.fault.SigFault.TheVariants.{BadObject, BadSigrefs, Get, Grafted, Missing, NotAccepted}
+use Rattle.signed_refs.specs.declared.fault.SigFault.TheVariants.{BadSigrefs, Get, NotAccepted}
 
--- refs that are not read make signed refs bad; want of memory stays what it is
-abbrev pub BecomesFault : RefsFault → SigFault → Type 0
-BecomesFault (reading.BadLine n) fault = fault ≡ BadSigrefs
-BecomesFault reading.TooMany fault = fault ≡ BadSigrefs
-BecomesFault reading.NoMemory fault = fault ≡ Get gets.NoMemory
+-- why a commit's refs are not accepted, as a refusal of the commit
+abbrev pub sig_fault : SigrefsFault → SigFault
+sig_fault sigrefs.Bad = BadSigrefs
+sig_fault sigrefs.NotAccepted = NotAccepted
+sig_fault (sigrefs.Get why) = Get why
 
 -- the fault refuses the commit, whatever the keyring, the repository and the node
 abbrev pub RefusesAlways : ObjectMap → Oid → SigFault → Type 0
@@ -36,28 +37,28 @@ FindsSignature objects commit None = (sig : Sig) → HasSignature objects commit
 FindsSignature objects commit (Some sig) = HasSignature objects commit sig
 
 -- the bytes spell refs
-abbrev pub AreRefs : List ℕ → Type 0
-AreRefs bytes = (refs : List Line) × SpellsRefs refs bytes
+abbrev pub SpellSomeRefs : List ℕ → Type 0
+SpellSomeRefs bytes = (refs : List Line) × SpellsRefs refs bytes
 
 -- why bytes are refused: they spell no refs, or the keyring does not accept the signature over them
-abbrev pub RefusesText : Contents → Nid → Sig → List ℕ → SigFault → Type 0
-RefusesText keyring node sig bytes (Missing oid) = ⊥
-RefusesText keyring node sig bytes (BadObject oid) = ⊥
-RefusesText keyring node sig bytes BadSigrefs = AreRefs bytes → ⊥
-RefusesText keyring node sig bytes NotAccepted = AreRefs bytes × (IsTrue (accepts keyring node bytes sig) → ⊥)
-RefusesText keyring node sig bytes Grafted = ⊥
-RefusesText keyring node sig bytes (Get why) = why ≡ gets.NoMemory
+abbrev pub RefusesText : Contents → Nid → Sig → List ℕ → SigrefsFault → Type 0
+RefusesText keyring node sig bytes sigrefs.Bad = SpellSomeRefs bytes → ⊥
+RefusesText keyring node sig bytes sigrefs.NotAccepted = SpellSomeRefs bytes × (IsTrue (accepts keyring node bytes sig) → ⊥)
+RefusesText keyring node sig bytes (sigrefs.Get why) = why ≡ gets.NoMemory
 
 -- the refs that the commit has, accepted as the node's
 abbrev pub IsAcceptedAs : ObjectMap → Contents → Nid → Oid → List Line → Type 0
 IsAcceptedAs objects keyring node commit refs = (found : Sigrefs) × HasAccepted objects keyring node commit found × (refs ≡ found.refs)
 
 -- why there are none: the blobs are not those of signed refs, or the keyring does not accept them
-abbrev pub RefusesUnaccepted : ObjectMap → Contents → Nid → Oid → SigFault → Type 0
-RefusesUnaccepted objects keyring node commit (Missing oid) = ⊥
-RefusesUnaccepted objects keyring node commit (BadObject oid) = ⊥
-RefusesUnaccepted objects keyring node commit BadSigrefs = (found : Sigrefs) → HasSigrefs objects commit found → ⊥
-RefusesUnaccepted objects keyring node commit NotAccepted =
+abbrev pub RefusesCommit : ObjectMap → Contents → Nid → Oid → SigrefsFault → Type 0
+RefusesCommit objects keyring node commit sigrefs.Bad = (found : Sigrefs) → HasSigrefs objects commit found → ⊥
+RefusesCommit objects keyring node commit sigrefs.NotAccepted =
     ((found : Sigrefs) × HasSigrefs objects commit found) × ((found : Sigrefs) → HasAccepted objects keyring node commit found → ⊥)
-RefusesUnaccepted objects keyring node commit Grafted = ⊥
-RefusesUnaccepted objects keyring node commit (Get why) = Unit {0}
+RefusesCommit objects keyring node commit (sigrefs.Get why) = Unit {0}
+
+-- the fault of objects that a refusal is
+abbrev pub sigrefs_fault_in : SigrefsFault → Option GetFault
+sigrefs_fault_in sigrefs.Bad = None
+sigrefs_fault_in sigrefs.NotAccepted = None
+sigrefs_fault_in (sigrefs.Get why) = Some why

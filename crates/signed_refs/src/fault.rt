@@ -53,16 +53,3 @@ impl From<GetFault> for SigFault {
         SigFault::Get(fault)
     }
 }
-
-impl From<RefsFault> for SigFault {
-    ghost use Rattle.signed_refs.specs.SignedParts.{BecomesFault};
-
-    ghost from_gives = { BecomesFault };
-
-    fn from(fault: RefsFault) -> Self {
-        match fault {
-            RefsFault::BadLine(_) | RefsFault::TooMany => SigFault::BadSigrefs,
-            RefsFault::NoMemory => SigFault::Get(GetFault::NoMemory),
-        }
-    }
-}

@@ -1,6 +1,6 @@
 // The lines of signed refs, read from the front.
 ghost use Rattle.std.specs.Prelude.{◌≡◌, ◌++◌, ◌↔◌, ℕ, List, IsTrue, IfSome, IfNone};
-ghost use Rattle.signed_refs.specs.Lines.{IsLine, IsSignedName, Line, line_text};
+ghost use Rattle.signed_refs.specs.Lines.{IsRefLine, IsSignedName, Line, ref_line_text};
 ghost use Rattle.signed_refs.specs.Readings.{Continues};
 
 use crate::Refs;
@@ -18,10 +18,10 @@ fn is_signed_name(name: &[u8]) -> bool
 
 // The line in front: the ref's name, the object's name, and what stands behind the line feed.
 fn line_at(bytes: &[u8]) -> Option<(&[u8], Oid, &[u8])>
-    ensures found { IfSome result (λ x. IsLine (x.0.now, x.1)
-        × (bytes.now ≡ line_text (x.0.now, x.1) ++ x.2.now)) }
+    ensures found { IfSome result (λ x. IsRefLine (x.0.now, x.1)
+        × (bytes.now ≡ ref_line_text (x.0.now, x.1) ++ x.2.now)) }
     ensures none { IfNone result ((line : Line) (rest : List ℕ)
-        → IsLine line → bytes.now ≡ line_text line ++ rest → ⊥) }
+        → IsRefLine line → bytes.now ≡ ref_line_text line ++ rest → ⊥) }
 {
     let (oid, rest) = oid_text_front(bytes)?;
     let rest = after(rest, b" ")?;

@@ -1,7 +1,7 @@
 // Reading signed refs.
 ghost use Rattle.std.specs.Prelude.{◌≡◌, ◌∷◌, ◌++◌, [], OnOk, OnErr, IfOk, IfErr};
-ghost use Rattle.signed_refs.specs.Lines.{IsAbove, SpellsRefs};
-ghost use Rattle.signed_refs.specs.Readings.{Explains};
+ghost use Rattle.signed_refs.specs.Lines.{AreRefs, IsAboveNames, SpellsRefs};
+ghost use Rattle.signed_refs.specs.Readings.{ExplainsRefs};
 
 use crate::line::line_behind;
 use crate::{Refs, RefsFault};
@@ -13,7 +13,7 @@ const MOST_LINES: usize = 65_536;
 
 // Adds a ref with a copy of its name.
 fn add(alloc: Global, refs: &mut Refs, name: &[u8], oid: Oid) -> Result<(), NoMemory>
-    requires { IsAbove refs.old name.now }
+    requires { IsAboveNames refs.old name.now }
     ensures { OnOk result (refs.new ≡ refs.old ++ (name.now, oid) ∷ []) }
 {
     let name = RefName::copy_of(alloc, name)?;
@@ -31,7 +31,8 @@ fn add(alloc: Global, refs: &mut Refs, name: &[u8], oid: Oid) -> Result<(), NoMe
 /// `TooMany` exactly where bytes follow 65,536 good lines.
 pub fn read_refs(alloc: Global, bytes: &[u8]) -> Result<Refs, RefsFault>
     ensures refs { IfOk result (λ refs. SpellsRefs refs bytes.now) }
-    ensures refused { IfErr result (Explains bytes.now) }
+    ensures formed { IfOk result AreRefs }
+    ensures refused { IfErr result (ExplainsRefs bytes.now) }
 {
     let mut refs = Refs::new(alloc);
     let mut rest = bytes;

@@ -2,7 +2,7 @@
 ghost use Rattle.std.specs.Prelude.{◌≡◌, ◌∷◌, ◌++◌, ◌↔◌, [], length, Contains, Some};
 ghost use Rattle.std.specs.Prelude.{IsTrue, OnErr, OnOk};
 ghost use Rattle.rad_base.specs.declared.names.Oid.{Oid};
-ghost use Rattle.signed_refs.specs.Lines.{AreRising, IsAbove};
+ghost use Rattle.signed_refs.specs.Lines.{AreRising, IsAboveNames, order_of};
 
 use rad_base::{NoMemory, Oid};
 use ref_name::RefName;
@@ -48,7 +48,7 @@ impl Refs {
 
     /// Adds a ref whose name is above those before it.
     pub fn push(&mut self, name: RefName, oid: Oid) -> Result<(), NoMemory>
-        requires { IsAbove self.old name }
+        requires { IsAboveNames self.old name }
         ensures ok { OnOk result (self.new ≡ self.old ++ (name, oid) ∷ []) }
         ensures err { OnErr result (self.new ≡ self.old) }
     {
@@ -58,7 +58,7 @@ impl Refs {
 
     /// Whether a name is above those of the refs.
     pub fn is_below(&self, name: &[u8]) -> bool
-        ensures { IsTrue result ↔ IsAbove self.now name.now }
+        ensures { IsTrue result ↔ IsAboveNames self.now name.now }
     {
         match self.items.last() {
             None => true,
@@ -77,12 +77,14 @@ impl Refs {
     pub fn get(&self, name: &[u8]) -> Option<Oid>
         ensures { (oid : Oid) → (result ≡ Some oid) ↔ Contains self.now (name.now, oid) }
     {
-        for (other, oid) in &self.items {
-            if other.as_slice() == name {
-                return Some(*oid);
-            }
+        match self.items.binary_search_by(
+            |line: &(RefName, Oid)| -> Ordering
+                ensures { result ≡ order_of name.entry.now line.now }
+            { line.0.as_slice().cmp(name) },
+        ) {
+            Ok(at) => Some(self.items[at].1),
+            Err(_) => None,
         }
-        None
     }
 
     /// The refs, their names strictly rising.

@@ -1,3 +1,5 @@
+pub mod Growing
 pub mod Looking
 pub mod OneEntry
+pub mod Reaching
 pub mod Through

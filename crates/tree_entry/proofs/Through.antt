@@ -8,8 +8,8 @@ use Rattle.git_object.specs.Grammar.{Commit}
 use Rattle.git_object.specs.declared.kind.Kind.{Kind}
 use Rattle.git_object.specs.declared.kind.Kind.TheVariants as kinds
 use Rattle.commit_graph.specs.Objects.{ObjectMap}
-use Rattle.tree_entry.specs.Commits.{IsTreeOf, Shows}
-use Rattle.tree_entry.specs.Embedded.{HasDocument, HasEmbedded, IsIdentityRoot}
+use Rattle.tree_entry.specs.Commits.{IsTreeOf, ShowsCommit}
+use Rattle.tree_entry.specs.Embedded.{HasDocumentBlob, HasEmbedded, IsIdentityRoot}
 use Rattle.tree_entry.specs.Entries.{Finds, HasCommit, HasCommitEntry, HasEntry, IsEntryIn}
 use Rattle.tree_entry.specs.declared.commits.CommitTree.{CommitTree}
 use Rattle.tree_entry.proofs.OneEntry.{one_commit_entry, one_commit_of, one_content, one_embedded}
@@ -22,22 +22,22 @@ through_tree objects tree kind name bytes None there none = λ oid h.
 through_tree objects tree kind name bytes (Some oid) there is = record { bytes = bytes; there = there; is = is }
 
 -- there is no commit
-pub no_commit : (objects : ObjectMap) (oid : Oid) (r : Option CommitTree) (commit : Commit) → Shows objects oid r → r ≡ None → HasCommit objects oid commit → ⊥
-no_commit objects oid r commit shows none has = subst (Shows objects oid) none shows commit has
+pub no_commit : (objects : ObjectMap) (oid : Oid) (r : Option CommitTree) (commit : Commit) → ShowsCommit objects oid r → r ≡ None → HasCommit objects oid commit → ⊥
+no_commit objects oid r commit shows none has = subst (ShowsCommit objects oid) none shows commit has
 
 -- the commit that was shown
-shown_commit : (objects : ObjectMap) (oid : Oid) (found : CommitTree) (commit : Commit) → Shows objects oid (Some found) → HasCommit objects oid commit → IsTreeOf commit found
+shown_commit : (objects : ObjectMap) (oid : Oid) (found : CommitTree) (commit : Commit) → ShowsCommit objects oid (Some found) → HasCommit objects oid commit → IsTreeOf commit found
 shown_commit objects oid found commit shows has =
     subst (λ (c : Commit). IsTreeOf c found) (one_commit_of objects oid shows.0 commit shows.1 has) shows.2
 
 -- what was found in the tree of a commit
 pub through_commit : (objects : ObjectMap) (oid : Oid) (kind : Kind) (name : List ℕ) (shown : Option CommitTree) (found : CommitTree) (r : Option Oid)
-    → Shows objects oid shown → shown ≡ Some found → Finds (HasEntry objects found.tree kind name) r → Finds (HasCommitEntry objects oid kind name) r
+    → ShowsCommit objects oid shown → shown ≡ Some found → Finds (HasEntry objects found.tree kind name) r → Finds (HasCommitEntry objects oid kind name) r
 through_commit objects oid kind name shown found None shows e none = λ entry h.
-    let tree = shown_commit objects oid found h.commit (subst (Shows objects oid) e shows) h.has in
+    let tree = shown_commit objects oid found h.commit (subst (ShowsCommit objects oid) e shows) h.has in
     none entry (subst (λ (t : Oid). HasEntry objects t kind name entry) tree.tree h.entry)
 through_commit objects oid kind name shown found (Some entry) shows e is =
-    let s = subst (Shows objects oid) e shows in
+    let s = subst (ShowsCommit objects oid) e shows in
     record { commit = s.0; has = s.1; entry = subst (λ (t : Oid). HasEntry objects t kind name entry) (sym s.2.tree) is }
 
 -- there is no directory
@@ -57,23 +57,23 @@ through_directory objects oid name directory embeds (Some blob) finds e is =
     record { embeds = embeds; directory = subst (Finds (HasCommitEntry objects oid kinds.Tree (codes "embeds"))) e finds; entry = is }
 
 -- a commit with a parent is no root
-pub parent_no_root : (objects : ObjectMap) (rid : Rid) (oid : Oid) (shown : Option CommitTree) (found : CommitTree) → Shows objects oid shown → shown ≡ Some found
+pub parent_no_root : (objects : ObjectMap) (rid : Rid) (oid : Oid) (shown : Option CommitTree) (found : CommitTree) → ShowsCommit objects oid shown → shown ≡ Some found
     → found.has_parent ≡ true → IsIdentityRoot objects rid oid → ⊥
 parent_no_root objects rid oid shown found shows e parent root =
-    let tree = shown_commit objects oid found root.commit (subst (Shows objects oid) e shows) root.has in
+    let tree = shown_commit objects oid found root.commit (subst (ShowsCommit objects oid) e shows) root.has in
     false≢true (sym (tree.first.1 root.first) ∙ parent)
 
 -- a commit without parents is a root by its document
 pub root_by_document : (objects : ObjectMap) (rid : Rid) (oid : Oid) (shown : Option CommitTree) (found : CommitTree) (document : Option Oid) (b : Bool)
-    → Shows objects oid shown → shown ≡ Some found → found.has_parent ≡ false → Finds (HasDocument objects oid) document
+    → ShowsCommit objects oid shown → shown ≡ Some found → found.has_parent ≡ false → Finds (HasDocumentBlob objects oid) document
     → (IsTrue b ↔ (document ≡ Some rid.0)) → (IsTrue b ↔ IsIdentityRoot objects rid oid)
 root_by_document objects rid oid shown found document b shows e first finds same = (
   λ h.
-      let s = subst (Shows objects oid) e shows in
-      record { commit = s.0; has = s.1; first = s.2.first.0 first; document = subst (Finds (HasDocument objects oid)) (same.0 h) finds },
+      let s = subst (ShowsCommit objects oid) e shows in
+      record { commit = s.0; has = s.1; first = s.2.first.0 first; document = subst (Finds (HasDocumentBlob objects oid)) (same.0 h) finds },
   λ root. same.1 (named document finds root.document),
 )
   where
-    named : (document : Option Oid) → Finds (HasDocument objects oid) document → HasDocument objects oid rid.0 → document ≡ Some rid.0
+    named : (document : Option Oid) → Finds (HasDocumentBlob objects oid) document → HasDocumentBlob objects oid rid.0 → document ≡ Some rid.0
     named None none has = absurd (none rid.0 has)
     named (Some blob) is has = ap (λ (o : Oid). Some o) (one_embedded objects oid (codes "radicle.json") blob rid.0 is has)

@@ -12,11 +12,11 @@ pub record IsTreeOf (commit : Commit) (found : CommitTree) : Type 0 where
   pub first : (found.has_parent ≡ false) ↔ (commit.parents ≡ [])
 
 -- what the bytes of a commit show; nothing where they are not a commit's
-abbrev pub Reads : List ℕ → Option CommitTree → Type 0
-Reads bytes None = (commit : Commit) → SpellsCommit commit bytes → ⊥
-Reads bytes (Some found) = (commit : Commit) × SpellsCommit commit bytes × IsTreeOf commit found
+abbrev pub ReadsCommit : List ℕ → Option CommitTree → Type 0
+ReadsCommit bytes None = (commit : Commit) → SpellsCommit commit bytes → ⊥
+ReadsCommit bytes (Some found) = (commit : Commit) × SpellsCommit commit bytes × IsTreeOf commit found
 
 -- what the commit of a name shows; nothing where there is none in its grammar
-abbrev pub Shows : ObjectMap → Oid → Option CommitTree → Type 0
-Shows objects oid None = (commit : Commit) → HasCommit objects oid commit → ⊥
-Shows objects oid (Some found) = (commit : Commit) × HasCommit objects oid commit × IsTreeOf commit found
+abbrev pub ShowsCommit : ObjectMap → Oid → Option CommitTree → Type 0
+ShowsCommit objects oid None = (commit : Commit) → HasCommit objects oid commit → ⊥
+ShowsCommit objects oid (Some found) = (commit : Commit) × HasCommit objects oid commit × IsTreeOf commit found

@@ -14,12 +14,12 @@ pub record HasEmbedded (objects : ObjectMap) (oid : Oid) (entry_name : List ℕ)
   pub entry : HasEntry objects embeds kinds.Blob entry_name blob
 
 -- the blob of the commit's identity document
-abbrev pub HasDocument : ObjectMap → Oid → Oid → Type 0
-HasDocument objects oid blob = HasEmbedded objects oid (codes "radicle.json") blob
+abbrev pub HasDocumentBlob : ObjectMap → Oid → Oid → Type 0
+HasDocumentBlob objects oid blob = HasEmbedded objects oid (codes "radicle.json") blob
 
 -- the blob of the delegates' signatures
-abbrev pub HasSignatures : ObjectMap → Oid → Oid → Type 0
-HasSignatures objects oid blob = HasEmbedded objects oid (codes "signatures") blob
+abbrev pub HasSignaturesBlob : ObjectMap → Oid → Oid → Type 0
+HasSignaturesBlob objects oid blob = HasEmbedded objects oid (codes "signatures") blob
 
 -- A commit without parents whose document has the repository's name. The blob of the document need
 -- not be there.
@@ -27,4 +27,4 @@ pub record IsIdentityRoot (objects : ObjectMap) (rid : Rid) (oid : Oid) : Type 0
   pub commit : Commit
   pub has : HasCommit objects oid commit
   pub first : commit.parents ≡ []
-  pub document : HasDocument objects oid rid.0
+  pub document : HasDocumentBlob objects oid rid.0

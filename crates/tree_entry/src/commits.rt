@@ -1,9 +1,9 @@
 // Commits, and the entries of their trees.
-ghost use Rattle.std.specs.Prelude.{◌≡◌, ◌≤◌, IfErr, IfOk};
+ghost use Rattle.std.specs.Prelude.{◌≡◌, IfErr, IfOk, Some};
 ghost use Rattle.std.specs.Option.{ForSome};
-ghost use Rattle.commit_graph.specs.Faults.{HasCause};
+ghost use Rattle.commit_graph.specs.Faults.{KeepsObjects};
 ghost use Rattle.tree_entry.specs.Entries.{Finds, HasCommitEntry};
-ghost use Rattle.tree_entry.specs.Commits.{Shows, Reads};
+ghost use Rattle.tree_entry.specs.Commits.{ShowsCommit, ReadsCommit};
 
 use crate::find_entry;
 use commit_graph::{Changed, GetFault, Objects};
@@ -20,7 +20,7 @@ pub struct CommitTree {
 }
 
 fn tree_in(bytes: &[u8]) -> Option<CommitTree>
-    ensures { Reads bytes.now result }
+    ensures { ReadsCommit bytes.now result }
 {
     let Ok(parts) = read_commit(bytes) else {
         return None;
@@ -35,12 +35,10 @@ fn tree_in(bytes: &[u8]) -> Option<CommitTree>
 /// The tree of a commit. None where the commit is not there, is of another kind or not in its
 /// grammar. `GetFault` as `Objects::get` answers it.
 pub fn commit_tree<O: Objects>(objects: &mut O, oid: &Oid) -> Result<Option<CommitTree>, GetFault>
-    ensures told { ForSome (O.content objects.old) (λ m. IfOk result (Shows m oid.now)) }
+    ensures told { ForSome (O.content objects.old) (λ m. IfOk result (ShowsCommit m oid.now)) }
     ensures asked { IfErr result (λ fault. (change : Changed) → fault ≡ GetFault.Changed change
         → change.name ≡ oid.now) }
-    ensures kept { O.content objects.new ≡ O.content objects.old }
-    ensures beside { O.beside objects.new ≡ O.beside objects.old }
-    ensures cause { HasCause (O.content objects.old) (O.faults objects.old) (O.faults objects.new)
+    ensures keeps { KeepsObjects O.content O.beside O.places O.faults Some objects.old objects.new
         result }
 {
     match objects.get(oid) {
@@ -61,9 +59,7 @@ pub fn commit_entry<O: Objects>(
 ) -> Result<Option<Oid>, GetFault>
     ensures told { ForSome (O.content objects.old)
         (λ m. IfOk result (Finds (HasCommitEntry m oid.now kind name.now))) }
-    ensures kept { O.content objects.new ≡ O.content objects.old }
-    ensures beside { O.beside objects.new ≡ O.beside objects.old }
-    ensures cause { HasCause (O.content objects.old) (O.faults objects.old) (O.faults objects.new)
+    ensures keeps { KeepsObjects O.content O.beside O.places O.faults Some objects.old objects.new
         result }
 {
     let Some(found) = commit_tree(objects, oid)? else {

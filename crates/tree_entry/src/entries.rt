@@ -1,9 +1,9 @@
 // Entries of trees.
-ghost use Rattle.std.specs.Prelude.{◌≡◌, ◌↔◌, ◌≤◌, IfErr, IfOk, IsTrue, Some};
+ghost use Rattle.std.specs.Prelude.{◌≡◌, ◌↔◌, IfErr, IfOk, IsTrue, Some};
 ghost use Rattle.std.specs.Option.{ForSome};
 ghost use Rattle.git_object.specs.Links.{kind_of};
 ghost use Rattle.git_object.specs.Views.{entry_of};
-ghost use Rattle.commit_graph.specs.Faults.{HasCause};
+ghost use Rattle.commit_graph.specs.Faults.{KeepsObjects};
 ghost use Rattle.tree_entry.specs.Entries.{Finds, HasEntry, IsEntryIn};
 
 use commit_graph::{Changed, GetFault, Objects};
@@ -61,9 +61,7 @@ pub fn find_entry<O: Objects>(
         (λ m. IfOk result (Finds (HasEntry m tree.now kind name.now))) }
     ensures asked { IfErr result (λ fault. (change : Changed) → fault ≡ GetFault.Changed change
         → change.name ≡ tree.now) }
-    ensures kept { O.content objects.new ≡ O.content objects.old }
-    ensures beside { O.beside objects.new ≡ O.beside objects.old }
-    ensures cause { HasCause (O.content objects.old) (O.faults objects.old) (O.faults objects.new)
+    ensures keeps { KeepsObjects O.content O.beside O.places O.faults Some objects.old objects.new
         result }
 {
     match objects.get(tree) {

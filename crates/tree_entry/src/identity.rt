@@ -1,7 +1,7 @@
 // What identity commits embed.
-ghost use Rattle.std.specs.Prelude.{◌≡◌, ◌↔◌, ◌≤◌, IfOk, IsTrue, Some};
+ghost use Rattle.std.specs.Prelude.{◌≡◌, ◌↔◌, IfOk, IsTrue, Some};
 ghost use Rattle.std.specs.Option.{ForSome};
-ghost use Rattle.commit_graph.specs.Faults.{HasCause};
+ghost use Rattle.commit_graph.specs.Faults.{KeepsObjects};
 ghost use Rattle.tree_entry.specs.Entries.{Finds};
 ghost use Rattle.tree_entry.specs.Embedded.{HasEmbedded, IsIdentityRoot};
 
@@ -23,9 +23,7 @@ pub fn embedded<O: Objects>(
 ) -> Result<Option<Oid>, GetFault>
     ensures told { ForSome (O.content objects.old)
         (λ m. IfOk result (Finds (HasEmbedded m oid.now name.now))) }
-    ensures kept { O.content objects.new ≡ O.content objects.old }
-    ensures beside { O.beside objects.new ≡ O.beside objects.old }
-    ensures cause { HasCause (O.content objects.old) (O.faults objects.old) (O.faults objects.new)
+    ensures keeps { KeepsObjects O.content O.beside O.places O.faults Some objects.old objects.new
         result }
 {
     let Some(embeds) = commit_entry(objects, oid, Kind::Tree, b"embeds")? else {
@@ -49,9 +47,7 @@ fn is_named_after(document: Option<Oid>, rid: &Rid) -> bool
 pub fn is_identity_root<O: Objects>(objects: &mut O, rid: &Rid, oid: &Oid) -> Result<bool, GetFault>
     ensures told { ForSome (O.content objects.old)
         (λ m. IfOk result (λ is. IsTrue is ↔ IsIdentityRoot m rid.now oid.now)) }
-    ensures kept { O.content objects.new ≡ O.content objects.old }
-    ensures beside { O.beside objects.new ≡ O.beside objects.old }
-    ensures cause { HasCause (O.content objects.old) (O.faults objects.old) (O.faults objects.new)
+    ensures keeps { KeepsObjects O.content O.beside O.places O.faults Some objects.old objects.new
         result }
 {
     let Some(found) = commit_tree(objects, oid)? else {

@@ -161,7 +161,7 @@ fn tips_without_a_chain_are_refused(rt: HostRuntime) -> Result<(), Fail> {
     Ok(())
 }
 
-// A root whose document has four delegates, and a change of the document.
+// A root whose document has four delegates, and a change of its threshold.
 const FOUR: [(Kind, &[u8]); 5] = [
     (
         Kind::Blob,
@@ -172,12 +172,12 @@ const FOUR: [(Kind, &[u8]); 5] = [
     (Kind::Commit, b"tree #C\n~"),
     (
         Kind::Blob,
-        br#"{"delegates":[^&a",^&b",^&c",^&d"],@,"description":"","name":"changed"}},"threshold":2}"#,
+        br#"{"delegates":[^&a",^&b",^&c",^&d"],@,"description":"","name":"changed"}},"threshold":3}"#,
     ),
 ];
 
 // The SHA-256 of the message of that change.
-const CHANGE: &[u8] = b"fc464c96e6d83989536bd4767992df853b834edf0e31a7610dfc2e439d9ce8c0";
+const CHANGE: &[u8] = b"22e7a361c29d84fffd07b2f6e16d1eed774898a8972428b96986e1ba020f58bd";
 
 // Whose signatures hold, and the signatures of the change.
 const CHANGES: [(&[u8], Option<&[u8]>, Wanted); 9] = [
@@ -202,7 +202,7 @@ const CHANGES: [(&[u8], Option<&[u8]>, Wanted); 9] = [
     (
         b"abc",
         Some(b"&a &a&a\n&b &b&b\n&c &c&c\n"),
-        Wanted::Read(4, 2),
+        Wanted::Read(4, 3),
     ),
     (
         b"abe",

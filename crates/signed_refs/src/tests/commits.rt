@@ -1,8 +1,8 @@
 // Commits of signed refs, those of an independent program and others.
 use super::objects::{CASES, KEYRING, OBJECTS, Said};
 use super::{blob_of, push_times};
-use crate::{SigFault, signed};
-use commit_graph::{FailingObjects, Failure, MemObjects, Objects};
+use crate::{SigFault, refs_said, signed, write_refs};
+use commit_graph::{FailingObjects, Failure, GetFault, MemObjects, Objects};
 use git_object::{Kind, write_commit};
 use keyring::Keyring;
 use rad_base::{Nid, NoMemory, Oid, Rid, parse_oid, until};
@@ -15,26 +15,41 @@ fn name(digits: &[u8]) -> Oid {
     parse_oid(digits).unwrap_or(NO_NAME)
 }
 
-fn fault(said: Said) -> Result<usize, SigFault> {
-    match said {
-        Said::Refs(count) => Ok(count),
-        Said::Missing(digits) => Err(SigFault::Missing(name(digits))),
-        Said::BadObject(digits) => Err(SigFault::BadObject(name(digits))),
-        Said::BadSigrefs => Err(SigFault::BadSigrefs),
-        Said::Grafted => Err(SigFault::Grafted),
+// Whether these refs, by their text, or this refusal are said of a commit.
+fn is_said(answer: Result<Vec<u8>, SigFault>, said: Said) -> bool {
+    match (answer, said) {
+        (Ok(text), Said::Refs(want)) => text.as_slice() == want,
+        (Err(SigFault::Missing(oid)), Said::Missing(digits)) => oid == name(digits),
+        (Err(SigFault::BadObject(oid)), Said::BadObject(digits)) => oid == name(digits),
+        (Err(SigFault::BadSigrefs), Said::BadSigrefs) => true,
+        (Err(SigFault::NotAccepted), Said::NotAccepted) => true,
+        (Err(SigFault::Grafted), Said::Grafted) => true,
+        _ => false,
     }
 }
 
-fn count<O: Objects>(
+// The text of the refs that a commit says.
+fn said_text<O: Objects>(
     alloc: Global,
     objects: &mut O,
     keyring: &Keyring,
     rid: &Rid,
     node: &Nid,
     commit: &Oid,
-) -> Result<usize, SigFault> {
+) -> Result<Vec<u8>, SigFault> {
     let refs = signed(alloc, objects, keyring, rid, node, commit)?;
-    Ok(refs.len())
+    match write_refs(alloc, &refs) {
+        Ok(text) => Ok(text),
+        Err(NoMemory) => Err(SigFault::Get(GetFault::NoMemory)),
+    }
+}
+
+// The text of the refs that a commit says, whoever signed them.
+fn text_of(alloc: Global, objects: &mut MemObjects, commit: &Oid) -> Result<Option<Vec<u8>>, Fail> {
+    let Some(refs) = refs_said(alloc, objects, commit)? else {
+        return Ok(None);
+    };
+    Ok(Some(write_refs(alloc, &refs)?))
 }
 
 // Adds an entry of a tree: a mode and a name, `@` and the digits of an object's name.
@@ -93,8 +108,13 @@ fn commits_say_their_refs(rt: HostRuntime) -> Result<(), Fail> {
     for (rid, byte, commit, said) in CASES {
         let rid = Rid(name(rid));
         let node = Nid([byte; 32]);
-        let answer = count(alloc, &mut objects, &keyring, &rid, &node, &name(commit));
-        assert_eq!(rt; answer, fault(said));
+        let commit = name(commit);
+        let answer = said_text(alloc, &mut objects, &keyring, &rid, &node, &commit);
+        assert!(rt; is_said(answer, said));
+        if let Said::Refs(want) = said {
+            let text = text_of(alloc, &mut objects, &commit)?;
+            assert_eq!(rt; text.as_deref(), Some(want));
+        }
     }
     Ok(())
 }
@@ -118,22 +138,23 @@ fn put_commit(
     objects.put(alloc, Kind::Commit, &commit)
 }
 
-// The blob of the refs, the length of the signature, and what is said where the keyring accepts the
-// signature over no bytes alone (their SHA-256 is that of FIPS 180-4).
+// The blob of the refs, the length of the signature, what is said where the keyring accepts the
+// signature over no bytes alone (their SHA-256 is that of FIPS 180-4), and whether the commit says
+// the refs of its blob, whoever signed them.
 const EMPTY: [(&[u8], &[u8]); 1] = [(
     b"21",
     b"e3b0c44298fc1c149afbf4c8996fb92427ae41e4649b934ca495991b7852b855",
 )];
 
-const REFUSED: [(&[u8], usize, Result<usize, SigFault>); 8] = [
-    (b"", 64, Ok(0)),
-    (b"", 63, Err(SigFault::BadSigrefs)),
-    (b"%11T refs/b\n%11T refs/a\n", 64, Err(SigFault::BadSigrefs)),
-    (b"%11T refs/a\n%22T refs/a\n", 64, Err(SigFault::BadSigrefs)),
-    (b"%11T refs/rad/sigrefs\n", 64, Err(SigFault::BadSigrefs)),
-    (b"%ABT refs/a\n", 64, Err(SigFault::BadSigrefs)),
-    (b"%11T refs/a\n", 64, Err(SigFault::NotAccepted)),
-    (b"%11T refs/rad/root\n", 64, Err(SigFault::NotAccepted)),
+const REFUSED: [(&[u8], usize, Said, bool); 8] = [
+    (b"", 64, Said::Refs(b""), true),
+    (b"", 63, Said::BadSigrefs, true),
+    (b"%11T refs/b\n%11T refs/a\n", 64, Said::BadSigrefs, false),
+    (b"%11T refs/a\n%22T refs/a\n", 64, Said::BadSigrefs, false),
+    (b"%11T refs/rad/sigrefs\n", 64, Said::BadSigrefs, false),
+    (b"%ABT refs/a\n", 64, Said::BadSigrefs, false),
+    (b"%11T refs/a\n", 64, Said::NotAccepted, true),
+    (b"%11T refs/rad/root\n", 64, Said::NotAccepted, true),
 ];
 
 #[test]
@@ -142,27 +163,33 @@ fn the_first_that_fails_is_told(rt: HostRuntime) -> Result<(), Fail> {
     let keyring = Keyring::read(alloc, &keyring_of(alloc, &EMPTY)?)?;
     let signature = [0x21u8; 64];
     let mut objects = MemObjects::new(alloc);
-    for (template, length, want) in REFUSED {
+    for (template, length, said, says) in REFUSED {
         let refs = blob_of(alloc, template)?;
         let signature = signature.get(..length).ok_or(NoMemory)?;
         let commit = put_commit(alloc, &mut objects, &refs, signature)?;
         let node = Nid([0x21; 32]);
-        let answer = count(alloc, &mut objects, &keyring, &Rid(NO_NAME), &node, &commit);
-        assert_eq!(rt; answer, want);
+        let rid = Rid(NO_NAME);
+        let answer = said_text(alloc, &mut objects, &keyring, &rid, &node, &commit);
+        assert!(rt; is_said(answer, said));
+        let text = text_of(alloc, &mut objects, &commit)?;
+        assert_eq!(rt;
+            text.as_deref(),
+            if says { Some(refs.as_slice()) } else { None }
+        );
     }
     Ok(())
 }
 
-// How many refs the commit of a case says.
-fn count_failing(
+// The text of the refs that the commit of a case says.
+fn text_failing(
     alloc: Global,
     objects: &mut FailingObjects<'_>,
     keyring: &Keyring,
     case: (&[u8], u8, &[u8]),
-) -> Result<usize, SigFault> {
+) -> Result<Vec<u8>, SigFault> {
     let (rid, byte, commit) = case;
     let node = Nid([byte; 32]);
-    count(
+    said_text(
         alloc,
         objects,
         keyring,
@@ -179,7 +206,7 @@ fn is_handed_on(
     keyring: &Keyring,
     case: (&[u8], u8, &[u8]),
 ) -> bool {
-    match (count_failing(alloc, store, keyring, case), store.fault()) {
+    match (text_failing(alloc, store, keyring, case), store.fault()) {
         (Err(SigFault::Get(fault)), Some(answered)) => fault == answered,
         _ => false,
     }
@@ -196,10 +223,8 @@ fn faults_of_look_ups_are_handed_on(rt: HostRuntime) -> Result<(), Fail> {
     for (rid, byte, commit, said) in CASES {
         let case = (rid, byte, commit);
         let mut store = FailingObjects::new(&objects, Failure::Disk, u64::MAX);
-        assert_eq!(rt;
-            count_failing(alloc, &mut store, &keyring, case),
-            fault(said)
-        );
+        let answer = text_failing(alloc, &mut store, &keyring, case);
+        assert!(rt; is_said(answer, said));
         let looks = store.looks();
         assert!(rt; looks > 0);
         for answered in 0..looks {

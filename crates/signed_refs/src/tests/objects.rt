@@ -509,13 +509,14 @@ pub(crate) const OBJECTS: [(Kind, &[&[u8]]); 72] = [
     ),
 ];
 
-/// What is said of a commit, with the digits of a name.
+/// What is said of a commit: the text of its refs, or a refusal with the digits of a name.
 #[derive(Clone, Copy, Debug)]
 pub(crate) enum Said {
-    Refs(usize),
+    Refs(&'static [u8]),
     Missing(&'static [u8]),
     BadObject(&'static [u8]),
     BadSigrefs,
+    NotAccepted,
     Grafted,
 }
 
@@ -525,25 +526,25 @@ pub(crate) const CASES: [(&[u8], u8, &[u8], Said); 18] = [
         b"fd38665a716bc6e21e89857ce1cef9268f039ebc",
         0x01,
         b"4f325260b7e9a383b8b359e19cb64518da19eb3c",
-        Said::Refs(1),
+        Said::Refs(b"b1ff3dd5533f3275a83636b43d14c1d29c4410a1 refs/heads/master\n"),
     ),
     (
         b"fd38665a716bc6e21e89857ce1cef9268f039ebc",
         0x01,
         b"d6d64c2b933dea48647820984026a07fa3379e18",
-        Said::Refs(1),
+        Said::Refs(b"18ed372690a8ac905f540e5ac5237e3e9399b93f refs/heads/master\n"),
     ),
     (
         b"fd38665a716bc6e21e89857ce1cef9268f039ebc",
         0x01,
         b"8db5fc4c795f58f937df8068ebc1b2b17820e0b3",
-        Said::Refs(1),
+        Said::Refs(b"7b6579e761dd98d9e9b0bc1e7c7958fc61a2cce0 refs/heads/master\n"),
     ),
     (
         b"fd38665a716bc6e21e89857ce1cef9268f039ebc",
         0x01,
         b"9412469851fcd22a529d8ed3badb05cbc8c6d115",
-        Said::Refs(1),
+        Said::Refs(b"02aa5ec32e572d50e313b164feec1b95a3c42d45 refs/heads/master\n"),
     ),
     (
         b"2e63d4813d5d11a1ddfbf6235b989b7710591868",
@@ -555,7 +556,7 @@ pub(crate) const CASES: [(&[u8], u8, &[u8], Said); 18] = [
         b"2e63d4813d5d11a1ddfbf6235b989b7710591868",
         0x32,
         b"3acf27b651f1a954825154e0d56cf4483dd26460",
-        Said::Refs(1),
+        Said::Refs(b"18ed372690a8ac905f540e5ac5237e3e9399b93f refs/heads/master\n"),
     ),
     (
         b"2e63d4813d5d11a1ddfbf6235b989b7710591868",

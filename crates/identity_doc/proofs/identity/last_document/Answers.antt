@@ -7,9 +7,10 @@ use Rattle.identity_doc.proofs.identity.last_document.Goals as goal
 
 pub loop-commit-init : goal.loop-commit-init
 loop-commit-init g c = record {
-  kept = c.in_ok-doc.ensures.kept;
-  beside = c.in_ok-doc.ensures.beside;
-  rising = c.in_ok-doc.ensures.cause.later;
+  kept = c.in_ok-doc.ensures.keeps.content;
+  beside = c.in_ok-doc.ensures.keeps.beside;
+  text = c.in_ok-doc.ensures.text;
+  still = c.in_ok-doc.ensures.keeps.cause;
   line = λ m e tip chain. ends_first m c.args.keyring.now c.args.rid.now c.args.root c.args.later.now tip chain c.in_ok-doc.doc (c.in_ok-doc.ensures.told m e);
 }
 
@@ -24,9 +25,10 @@ returns-in_err-changed-clause-refused g c = λ m e tip chain.
 
 pub loop-commit-preserved : goal.loop-commit-preserved
 loop-commit-preserved g c = record {
-  kept = c.in_ok-changed.ensures.kept ∙ c.loop-commit.invariant.kept;
-  beside = c.in_ok-changed.ensures.beside ∙ c.loop-commit.invariant.beside;
-  rising = omega (arith, c.in_ok-changed.ensures.cause.later, c.loop-commit.invariant.rising);
+  kept = c.in_ok-changed.ensures.keeps.content ∙ c.loop-commit.invariant.kept;
+  beside = c.in_ok-changed.ensures.keeps.beside ∙ c.loop-commit.invariant.beside;
+  text = c.in_ok-changed.ensures.text;
+  still = c.in_ok-changed.ensures.keeps.cause ∙ c.loop-commit.invariant.still;
   line = λ m e tip chain.
       let told = c.loop-commit.invariant.kept ∙ e in
       let none : Oid = record { 0 = [] } in

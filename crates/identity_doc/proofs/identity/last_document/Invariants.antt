@@ -1,4 +1,5 @@
-use Rattle.std.proofs.Common.{◌≡◌, ◌≤◌, ◌∷◌, take}
+use Rattle.std.proofs.Common.{◌≡◌, ◌∷◌, take}
+use Rattle.identity_doc.specs.Texts.{IsSomeText}
 use Rattle.std.specs.Option.{ForSome}
 use Rattle.rad_base.specs.declared.names.Oid.{Oid}
 use Rattle.commit_graph.specs.Chains.{IsChain}
@@ -13,7 +14,8 @@ invariant-loop-commit g l =
     record {
       kept : content l.objects ≡ content l.fn.objects;
       beside : beside l.objects ≡ beside l.fn.objects;
-      rising : faults l.fn.objects ≤ faults l.objects;
+      text : IsSomeText l.keyring l.doc;
+      still : faults l.objects ≡ faults l.fn.objects;
       line : ForSome (content l.fn.objects) (λ m. (tip : Oid) → IsChain m (l.fn.root ∷ l.later) tip
           → EndsLine m l.keyring l.rid (l.fn.root ∷ take l.commit-index l.later) l.parent l.doc);
     }

@@ -9,4 +9,4 @@ returns-in_default-clause-told g c = λ m e oid h.
 pub returns-clause-told : goal.returns-clause-told
 returns-clause-told g c = λ m e.
     through_commit m c.args.oid.now c.args.kind c.args.name.now c.in_ok-found.field-0 c.in-Some.found c.in_ok-entry.entry
-    (c.in_ok-found.ensures.told m e) c.in-Some.is (c.in_ok-entry.ensures.told m (c.in_ok-found.ensures.kept ∙ e))
+    (c.in_ok-found.ensures.told m e) c.in-Some.is (c.in_ok-entry.ensures.told m (c.in_ok-found.ensures.keeps.content ∙ e))

@@ -9,4 +9,4 @@ returns-in_default-clause-told g c = λ m e blob h.
 pub returns-clause-told : goal.returns-clause-told
 returns-clause-told g c = λ m e.
     through_directory m c.args.oid.now c.args.name.now c.in_ok-embeds.field-0 c.in-Some.embeds c.in_ok-blob.blob
-    (c.in_ok-embeds.ensures.told m e) c.in-Some.is (c.in_ok-blob.ensures.told m (c.in_ok-embeds.ensures.kept ∙ e))
+    (c.in_ok-embeds.ensures.told m e) c.in-Some.is (c.in_ok-blob.ensures.told m (c.in_ok-embeds.ensures.keeps.content ∙ e))

@@ -18,4 +18,4 @@ returns-then-found-clause-told g c = λ m e. (
 pub returns-clause-told : goal.returns-clause-told
 returns-clause-told g c = λ m e.
     root_by_document m c.args.rid.now c.args.oid.now c.in_ok-found.field-0 c.in-Some.found c.in_ok-document.document c.is_named_after.result
-    (c.in_ok-found.ensures.told m e) c.in-Some.is c.if-found.false (c.in_ok-document.ensures.told m (c.in_ok-found.ensures.kept ∙ e)) c.is_named_after.ensures
+    (c.in_ok-found.ensures.told m e) c.in-Some.is c.if-found.false (c.in_ok-document.ensures.told m (c.in_ok-found.ensures.keeps.content ∙ e)) c.is_named_after.ensures
