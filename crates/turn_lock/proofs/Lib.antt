@@ -1,0 +1,14 @@
+pub mod Adds
+pub mod Closes
+pub mod Counted
+pub mod Draws
+pub mod Joins
+pub mod Keeps
+pub mod Learns
+pub mod Looks
+pub mod Numbers
+pub mod Opens
+pub mod PassesOn
+pub mod SignsOn
+pub mod Splits
+pub mod Sums
