@@ -1,6 +1,5 @@
 // Documents with what an independent reader says of them, and who sees a repository.
 mod chains;
-mod circle;
 mod faults;
 mod long_chain;
 mod told;
