@@ -6,6 +6,7 @@ pub mod ClosureTurns
 pub mod FactsHold
 pub mod Growing
 pub mod HistoryWalks
+pub mod Holdings
 pub mod Learned
 pub mod LeastNames
 pub mod LookUps

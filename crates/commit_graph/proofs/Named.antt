@@ -1,41 +1,38 @@
--- What a store in memory holds has its names, also with one object more.
-use Rattle.std.proofs.Common.{◌≡◌, Bool, true, false, Option, Some, None, refl, sym, ap, subst, ◌∙◌}
-use Rattle.std.specs.Option.{is_some, unwrap_or}
-use Rattle.std.specs.Ordering.{is_eq}
-use Rattle.std.specs.BTreeMap.{BTreeMap, Updates, get}
+-- Objects in memory, and others behind them.
+use Rattle.std.proofs.Common.{◌≡◌, Bool, true, false, cond, List, [], ◌∷◌, ◌++◌, Option, Some, refl, sym, ap, ◌∙◌}
+use Rattle.std.specs.BTreeMap.{is_at}
+use Rattle.std.specs.Option.{option_or}
 use Rattle.rad_base.specs.declared.names.Oid.{Oid}
 use Rattle.rad_base.specs.Order.{oid_cmp}
-use Rattle.rad_base.proofs.NameOrder.{equal_from_is_eq, apart, oid_exact}
 use Rattle.git_object.specs.Names.{name}
-use Rattle.commit_graph.specs.declared.held.Held.{Held}
-use Rattle.commit_graph.specs.Objects.{Object, IsNamed}
-use Rattle.commit_graph.specs.Memory.{content_of, object_of, AddsObject}
+use Rattle.commit_graph.specs.InMemory.{objects_in}
+use Rattle.commit_graph.specs.Objects.{Grows, Object, ObjectMap}
 
-none_held : (held : Option Held) → is_some held ≡ false → held ≡ None
-none_held None e = refl
-none_held (Some held) e = cc e
+by_test : (b : Bool) (x object : Object) (rest more : Option Object)
+    → (rest ≡ Some object → more ≡ Some object) → cond b (Some x) rest ≡ Some object
+    → cond b (Some x) more ≡ Some object
+by_test true x object rest more later e = e
+by_test false x object rest more later e = later e
 
-module _ (old new : BTreeMap Oid Held) (oid : Oid) (held : Held) (u : Updates oid_cmp old new oid (Some held)) where
-  -- a new object is under its name, and the others stay
-  pub adds_object : (object : Object) → is_some (get oid_cmp old oid) ≡ false
-      → (held.kind, held.bytes.items) ≡ object
-      → AddsObject (content_of old) oid object (content_of new)
-  adds_object object fresh e = record {
-    here = ap object_of u.1 ∙ ap Some e ∙ sym (ap (λ (o : Option Held). Some (unwrap_or (object_of o) object)) (none_held _ fresh));
-    others = λ other apart_from. ap object_of (u.2 other (apart oid_cmp oid_exact oid other apart_from));
-  }
+-- objects behind others are added, and replace none
+pub grows_behind : (xs ys : List Object) → Grows (objects_in xs) (objects_in (xs ++ ys))
+grows_behind [] ys oid object e = cc e
+grows_behind (x ∷ xs) ys oid object e =
+    by_test (is_at (oid_cmp oid) (name x.0 x.1)) x object (objects_in xs oid) (objects_in (xs ++ ys) oid) (grows_behind xs ys oid object) e
 
-  named_at : (b : Bool) (q : Oid) (object : Object) → is_eq (oid_cmp oid q) ≡ b
-      → IsNamed (content_of old) → name held.kind held.bytes.items ≡ oid
-      → content_of new q ≡ Some object → name object.0 object.1 ≡ q
-  named_at true q object at h n there =
-      let e : oid ≡ q = oid_exact oid q (equal_from_is_eq _ at) in
-      let same : (held.kind, held.bytes.items) ≡ object =
-      ap (λ (o : Option Object). unwrap_or o object) (sym (ap object_of u.1) ∙ subst (λ (x : Oid). content_of new x ≡ Some object) (sym e) there) in
-      sym (ap (λ (o : Object). name o.0 o.1) same) ∙ n ∙ e
-  named_at false q object at h n there = h q object (sym (ap object_of (u.2 q at)) ∙ there)
+-- what objects behind others give: what the first have, else what they have
+pub objects_behind : (xs ys : List Object) (oid : Oid)
+    → objects_in (xs ++ ys) oid ≡ option_or (objects_in xs oid) (objects_in ys oid)
+objects_behind [] ys oid = refl
+objects_behind (x ∷ xs) ys oid = by_name (objects_behind xs ys oid) (is_at (oid_cmp oid) (name x.0 x.1))
+  where
+    by_name : objects_in (xs ++ ys) oid ≡ option_or (objects_in xs oid) (objects_in ys oid)
+        → (b : Bool) → cond b (Some x) (objects_in (xs ++ ys) oid) ≡ option_or (cond b (Some x) (objects_in xs oid)) (objects_in ys oid)
+    by_name later true = refl
+    by_name later false = later
 
-  -- each object still has its name
-  pub named_more : IsNamed (content_of old) → name held.kind held.bytes.items ≡ oid
-      → IsNamed (content_of new)
-  named_more h n = λ q object there. named_at (is_eq (oid_cmp oid q)) q object refl h n there
+-- so what is put behind equal maps gives equal maps
+pub puts_along : (xs ys zs : List Object) → objects_in xs ≡ objects_in ys
+    → objects_in (xs ++ zs) ≡ objects_in (ys ++ zs)
+puts_along xs ys zs e = λ i oid.
+    (objects_behind xs zs oid ∙ ap (λ (m : ObjectMap). option_or (m oid) (objects_in zs oid)) e ∙ sym (objects_behind ys zs oid)) i

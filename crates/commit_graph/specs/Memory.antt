@@ -1,22 +1,39 @@
 -- What a store in memory holds.
-use Rattle.std.specs.Prelude.{◌≡◌, Option, Some, None}
-use Rattle.std.specs.Option.{unwrap_or}
-use Rattle.std.specs.BTreeMap.{BTreeMap, get}
+use Rattle.std.specs.Prelude.{◌≡◌, Bool, not, List, filter, map, length}
+use Rattle.std.specs.List.{AllByRecursion}
+use Rattle.std.specs.BTreeSet.{BTreeSet, contains}
 use Rattle.rad_base.specs.declared.names.Oid.{Oid}
 use Rattle.rad_base.specs.Order.{oid_cmp}
-use Rattle.commit_graph.specs.declared.held.Held.{Held}
-use Rattle.commit_graph.specs.Objects.{Object, ObjectMap}
+use Rattle.git_object.specs.Names.{name}
+use Rattle.commit_graph.specs.declared.memory.Held.{Held}
+use Rattle.commit_graph.specs.declared.memory.MemObjects.TheInside.{Inside}
+use Rattle.commit_graph.specs.InMemory.{Holding}
+use Rattle.commit_graph.specs.Objects.{Object}
 
--- the object that is held
-abbrev pub object_of : Option Held → Option Object
-object_of None = None
-object_of (Some held) = Some (held.kind, held.bytes.items)
+-- an object that is held
+abbrev pub object_of : Held → Object
+object_of held = (held.kind, held.bytes.items)
 
--- the objects that a map holds
-abbrev pub content_of : BTreeMap Oid Held → ObjectMap
-content_of held = λ oid. object_of (get oid_cmp held oid)
+-- the objects of some entries
+abbrev pub objects_of : List (Oid × Held) → List Object
+objects_of entries = map (λ e. object_of e.1) entries
 
--- the object is held under the name, which keeps what it held; all other names stay
-pub record AddsObject (old : ObjectMap) (oid : Oid) (object : Object) (new : ObjectMap) : Type 0 where
-  pub here : new oid ≡ Some (unwrap_or (old oid) object)
-  pub others : (other : Oid) → (other ≡ oid → ⊥) → new other ≡ old other
+-- the name is not staged
+abbrev pub is_there : BTreeSet Oid → Oid × Held → Bool
+is_there staged entry = not (contains oid_cmp staged entry.0)
+
+-- those that are there, and all of them
+abbrev pub holding_of : Inside → Holding
+holding_of a = record {
+  objects = objects_of (filter (is_there a.staged) a.held.entries);
+  pending = objects_of a.held.entries;
+}
+
+-- each is held under its name
+abbrev pub AreNamed : List (Oid × Held) → Type 0
+AreNamed entries = AllByRecursion (λ e. name e.1.kind e.1.bytes.items ≡ e.0) entries
+
+-- each is held under its name, and those that are there are counted
+pub record IsHolding (a : Inside) : Type 0 where
+  pub named : AreNamed a.held.entries
+  pub counted : a.count ≡ length (filter (is_there a.staged) a.held.entries)

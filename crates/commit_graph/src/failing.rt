@@ -1,5 +1,6 @@
 // Objects in memory that count their look-ups and come to fail.
-ghost use Rattle.std.specs.Prelude.{◌≡◌, ◌≤◌, None, Some};
+ghost use Rattle.std.specs.Prelude.{◌≡◌, ◌≤◌, None, IfSome};
+ghost use Rattle.commit_graph.specs.FailingObjects.{IsFaultOf, one_place};
 ghost use Rattle.commit_graph.specs.Faults.{IsAskedFor, IsCause};
 
 use crate::{Changed, GetFault, MemObjects, Objects};
@@ -17,8 +18,9 @@ pub enum Failure {
 
 // The fault of a look-up of a name. That of the empty blob itself fails as a disk does.
 fn fault_of(failure: Failure, oid: &Oid, faults: &mut u64) -> GetFault
+    ensures is { IsFaultOf failure oid.now result }
     ensures later { faults.old ≤ faults.new }
-    ensures cause { IsCause None (λ _. Some 0) faults.old faults.new result }
+    ensures cause { IsCause None one_place faults.old faults.new result }
     ensures asked { IsAskedFor oid.now result }
 {
     let found = name_of(Kind::Blob, b"");
@@ -49,10 +51,12 @@ pub struct FailingObjects<'a> {
 }
 
 impl<'a> FailingObjects<'a> {
-    ghost use Rattle.commit_graph.specs.FailingObjects.{answers_of, fault_of, looks_of};
+    ghost use Rattle.commit_graph.specs.FailingObjects.{answers_of, failure_of, fault_of, looks_of};
+    ghost use Rattle.commit_graph.specs.FailingObjects.{IsCounted};
 
     /// These objects. So many look-ups are answered, and each later one fails in this way.
     pub fn new(objects: &'a MemObjects, failure: Failure, answers: u64) -> Self
+        ensures failure { failure_of result ≡ failure }
         ensures answers { answers_of result ≡ answers }
         ensures looks { looks_of result ≡ 0 }
         ensures fault { fault_of result ≡ None }
@@ -80,16 +84,31 @@ impl<'a> FailingObjects<'a> {
     {
         self.fault
     }
+
+    /// Counts a look-up of a name, as `get` does first: the fault with which it fails, exactly
+    /// where as many were answered as are to be.
+    pub fn count(&mut self, oid: &Oid) -> Option<GetFault>
+        ensures counted { IsCounted self.old oid.now result self.new }
+        ensures asked { IfSome result (IsAskedFor oid.now) }
+    {
+        let fails = self.looks >= self.answers;
+        self.looks = self.looks.saturating_add(1);
+        if !fails {
+            return None;
+        }
+        let fault = fault_of(self.failure, oid, &mut self.faults);
+        self.fault = Some(fault);
+        Some(fault)
+    }
 }
 
 impl Objects for FailingObjects<'_> {
-    ghost use Rattle.std.specs.Prelude.{Some};
     ghost use Rattle.std.proofs.Common.{rules};
-    ghost use Rattle.commit_graph.specs.FailingObjects.{looks_of};
+    ghost use Rattle.commit_graph.specs.FailingObjects.{faults_of, looks_of, one_place};
 
     ghost content = { λ _. None };
 
-    ghost faults = { λ store. store.faults };
+    ghost faults = { faults_of };
 
     ghost looks = { looks_of };
 
@@ -97,17 +116,13 @@ impl Objects for FailingObjects<'_> {
 
     ghost beside = { λ _. tt };
 
-    ghost places = { λ _ _. Some 0 };
+    ghost places = { λ _. one_place };
 
     fn get(&mut self, oid: &Oid) -> Result<Option<(Kind, &[u8])>, GetFault> {
-        let fails = self.looks >= self.answers;
-        self.looks = self.looks.saturating_add(1);
-        if fails {
-            let fault = fault_of(self.failure, oid, &mut self.faults);
-            self.fault = Some(fault);
-            return Err(fault);
+        match self.count(oid) {
+            Some(fault) => Err(fault),
+            None => Ok(self.objects.object(oid)),
         }
-        Ok(self.objects.object(oid))
     }
 
     ghost named = { Prim.search rules };

@@ -11,7 +11,6 @@ mod facts;
 mod failing;
 mod fault;
 mod follow;
-mod held;
 mod history;
 mod laws;
 mod look;

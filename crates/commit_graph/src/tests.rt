@@ -1,6 +1,6 @@
 // Tests against graphs that an independent program made, and that agree with Git; against the plain
-// closure; of a long chain; of how many look-ups there are, and of one that fails; and beyond names
-// that are known.
+// closure; of a long chain; of how many look-ups there are, and of one that fails; beyond names
+// that are known; and of objects that are staged.
 mod counted;
 mod failing;
 mod graphs;
@@ -9,3 +9,4 @@ mod known;
 mod long_chain;
 mod more_graphs;
 mod shapes;
+mod staging;

@@ -21,7 +21,7 @@ fn commit(alloc: Global, parent: Option<Oid>) -> Result<Vec<u8>, NoMemory> {
 }
 
 // A chain of commits, and the last of them, from the last but 254.
-fn chain_of(alloc: Global, length: usize) -> Result<(MemObjects, Vec<Oid>), NoMemory> {
+pub(crate) fn chain_of(alloc: Global, length: usize) -> Result<(MemObjects, Vec<Oid>), NoMemory> {
     let mut objects = MemObjects::new(alloc);
     let mut tips = Vec::new(alloc);
     let mut parent = None;

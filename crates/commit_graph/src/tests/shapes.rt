@@ -1,81 +1,67 @@
 // Trees, blobs, malformed trees and missing objects: three of them with each kind of entry, four
-// with directories alone. Cycles are among them: an object's hash can't be had ahead of its
-// content, so the objects here go by made names.
+// with directories alone. Each links to those before it, and to names that no object has.
 ghost use Rattle.std.specs.Prelude.{◌≡◌, ◌<◌};
 
-use crate::{GetFault, Objects, Root, closure, closure_beyond, closure_by_lists};
+use crate::{MemObjects, Root, closure, closure_beyond, closure_by_lists};
 use git_object::Kind;
-use rad_base::{Oid, Steps};
+use rad_base::{NoMemory, Oid, Steps};
 use std::alloc::{AllocError, Global};
 use std::collections::BTreeSet;
 use std::marker::Brand;
 use std::sync::ledger::{Blank, Ledger};
 use std::test::Fail;
 
-// What an object is, each of them by its number: one of these, or missing.
-#[derive(Drop)]
-struct Shapes<'a> {
-    shapes: &'a [(Kind, Vec<u8>)],
-    numbers: [usize; 4],
-}
-
-impl Objects for Shapes<'_> {
-    ghost use Rattle.std.specs.Prelude.{None};
-    ghost use Rattle.std.proofs.Common.{rules};
-
-    ghost content = { λ _. None };
-
-    ghost faults = { λ _. 0 };
-
-    ghost looks = { λ _. 0 };
-
-    ghost Beside = { Unit {0} };
-
-    ghost beside = { λ _. tt };
-
-    fn get(&mut self, oid: &Oid) -> Result<Option<(Kind, &[u8])>, GetFault> {
-        let Some(number) = self.numbers.get(usize::from(oid.0[0])) else {
-            return Ok(None);
-        };
-        match self.shapes.get(*number) {
-            Some((kind, bytes)) => Ok(Some((*kind, bytes.as_slice()))),
-            None => Ok(None),
-        }
-    }
-
-    ghost named = { Prim.search rules };
-}
-
 // The ways in which a tree can link to an object: not at all, or by an entry of one of these modes.
 const MODES: [&[u8]; 3] = [b"40000 ", b"100644 ", b"160000 "];
 
-// The tree whose entries are told by a number: for each object in turn one digit in the base of the
+// The tree whose entries are told by a number: for each name in turn one digit in the base of the
 // ways to link to it.
-fn tree(alloc: Global, objects: u8, ways: usize, number: usize) -> Result<Vec<u8>, AllocError> {
+fn tree(alloc: Global, names: &[Oid], ways: usize, number: usize) -> Result<Vec<u8>, AllocError> {
     let mut bytes = Vec::new(alloc);
     let mut rest = number;
-    for object in 0..objects {
+    let mut letter = b'a';
+    for name in names {
         let way = rest % ways.max(1);
         rest /= ways.max(1);
         if let Some(mode) = MODES.get(way.wrapping_sub(1)) {
             bytes.extend_from_slice(mode)?;
-            bytes.push(object.saturating_add(b'a'))?;
+            bytes.push(letter)?;
             bytes.push(0)?;
-            bytes.extend_from_slice([object; 20].as_slice())?;
+            bytes.extend_from_slice(name.0.as_slice())?;
         }
+        letter = letter.saturating_add(1);
     }
     Ok(bytes)
 }
 
-// Each tree, a blob, a malformed tree; a number past them is a missing object.
-fn each_shape(alloc: Global, objects: u8, ways: usize) -> Result<Vec<(Kind, Vec<u8>)>, AllocError> {
-    let mut shapes = Vec::new(alloc);
-    for number in 0..ways.saturating_pow(u32::from(objects)) {
-        shapes.push((Kind::Tree, tree(alloc, objects, ways, number)?))?;
+// How many trees there are; the next numbers stand for a blob, a malformed tree, a missing object.
+fn trees(objects: u8, ways: usize) -> usize {
+    ways.saturating_pow(u32::from(objects))
+}
+
+// The objects of a choice of shapes, with their names; a missing one has a made name, and so has
+// one that comes later than the tree that links to it.
+fn objects_of(
+    alloc: Global,
+    objects: u8,
+    ways: usize,
+    numbers: [usize; 4],
+) -> Result<(MemObjects, [Oid; 4]), NoMemory> {
+    let mut store = MemObjects::new(alloc);
+    let mut names = [Oid([0; 20]), Oid([1; 20]), Oid([2; 20]), Oid([3; 20])];
+    let trees = trees(objects, ways);
+    for i in 0..usize::from(objects.min(4)) {
+        let number = numbers[i];
+        if number < trees {
+            let bytes = tree(alloc, &names[..usize::from(objects.min(4))], ways, number)?;
+            names[i] = store.put(alloc, Kind::Tree, &bytes)?;
+        } else if number == trees {
+            names[i] = store.put(alloc, Kind::Blob, b"")?;
+        } else if number.wrapping_sub(1) == trees {
+            names[i] = store.put(alloc, Kind::Tree, b"100644 a")?;
+        }
     }
-    shapes.push((Kind::Blob, Vec::new(alloc)))?;
-    shapes.push((Kind::Tree, Vec::from_slice(alloc, b"100644 a")?))?;
-    Ok(shapes)
+    Ok((store, names))
 }
 
 // The choice of shapes of a number: for each object in turn one digit in the base of the choices.
@@ -89,7 +75,7 @@ fn chosen(choices: usize, number: usize) -> [usize; 4] {
     numbers
 }
 
-// On how many choices of shapes the closure of the first object as any kind and of the second as a
+// On how many choices of shapes the closure of the third object as any kind and of the second as a
 // tree, or that beyond no known name, is another than by lists.
 fn disagreements<L: Ledger>(
     alloc: Global,
@@ -102,16 +88,12 @@ fn disagreements<L: Ledger>(
     requires some { 0 < blank.parts }
 {
     let mut steps = Steps::<L>::new(blank);
-    let shapes = each_shape(alloc, objects, ways)?;
-    let choices = shapes.len().saturating_add(1);
-    let roots = [root(0, None), root(1, Some(Kind::Tree))];
+    let choices = trees(objects, ways).saturating_add(3);
     let mut count = 0usize;
     for number in 0..choices.saturating_pow(u32::from(objects)) {
         let numbers = chosen(choices, number);
-        let mut store = Shapes {
-            shapes: &shapes,
-            numbers,
-        };
+        let (mut store, names) = objects_of(alloc, objects, ways, numbers)?;
+        let roots = [root(names[2], None), root(names[1], Some(Kind::Tree))];
         let plain = closure_by_lists(alloc, &mut store, &roots)?;
         let mut known = BTreeSet::new(alloc);
         if closure(alloc, &mut store, &roots)? != plain
@@ -123,8 +105,7 @@ fn disagreements<L: Ledger>(
     Ok(count)
 }
 
-fn root(object: u8, kind: Option<Kind>) -> Root {
-    let oid = Oid([object; 20]);
+fn root(oid: Oid, kind: Option<Kind>) -> Root {
     Root { oid, kind }
 }
 
