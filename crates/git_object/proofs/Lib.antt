@@ -1,4 +1,5 @@
 pub mod Commits
+pub mod DigitTexts
 pub mod EntryTexts
 pub mod Items
 pub mod Lines

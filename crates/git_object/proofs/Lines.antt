@@ -152,11 +152,11 @@ pub record HasReadParents (bytes rest : List ℕ) : Type 0 where
   pub text : bytes ≡ parents_text parents ++ rest
 
 -- none at the start
-pub parents_start : (bytes : List ℕ) → HasReadParents bytes bytes
+abbrev pub parents_start : (bytes : List ℕ) → HasReadParents bytes bytes
 parents_start bytes = record { parents = []; each = tt; text = refl }
 
 -- one more
-pub parents_more : (bytes rest more : List ℕ) (p : Oid) → HasReadParents bytes rest → IsOid p → rest ≡ oid_line (codes "parent ") p ++ more → HasReadParents bytes more
+abbrev pub parents_more : (bytes rest more : List ℕ) (p : Oid) → HasReadParents bytes rest → IsOid p → rest ≡ oid_line (codes "parent ") p ++ more → HasReadParents bytes more
 parents_more bytes rest more p r is h =
     let line = oid_line (codes "parent ") p in
     record {
@@ -169,5 +169,5 @@ parents_more bytes rest more p r is h =
     }
 
 -- all, where none stands in front of the rest
-pub parents_end : (bytes rest : List ℕ) → HasReadParents bytes rest → HasNoLine (codes "parent ") rest → StandsBehindParents bytes rest
+abbrev pub parents_end : (bytes rest : List ℕ) → HasReadParents bytes rest → HasNoLine (codes "parent ") rest → StandsBehindParents bytes rest
 parents_end bytes rest r none = record { parents = r.parents; each = r.each; text = r.text; no_parent = none }

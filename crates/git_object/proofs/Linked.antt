@@ -1,13 +1,20 @@
 -- Links as they are gathered.
-use Rattle.std.proofs.Common.{◌≡◌, ℕ, List, [], ◌∷◌, ◌++◌, map, None, sym, ap, ◌∙◌}
-use Rattle.std.proofs.lemmas.List.{append-nil}
+use Rattle.std.proofs.Common.{◌≡◌, ℕ, ◌-◌, List, [], ◌∷◌, ◌++◌, map, length, None, inl, refl, sym, ap, ◌∙◌, append_assoc}
+use Rattle.std.specs.Prelude.{codes}
+use Rattle.std.proofs.lemmas.List.{append-nil, map-append}
+use Rattle.rad_base.specs.Lists.{BeginsWith}
+use Rattle.rad_base.specs.Sizes.{IsOid}
 use Rattle.rad_base.specs.declared.names.Oid.{Oid}
-use Rattle.git_object.specs.Grammar.{Entry, SpellsCommit, SpellsTag, SpellsTree}
-use Rattle.git_object.specs.Grammar.{Commit as CommitValue, Tag as TagValue}
-use Rattle.git_object.specs.Links.{link_to, links, tree_links}
-use Rattle.git_object.specs.Reading.{entries_in}
+use Rattle.git_object.specs.Faults.{IsBadAt}
+use Rattle.git_object.specs.Grammar.{Entry, IsCommit, SpellsTag, SpellsTree, oid_line}
+use Rattle.git_object.specs.Grammar.{Tag as TagValue}
+use Rattle.git_object.specs.Links.{LinksParents, link_to, links, tree_links}
+use Rattle.git_object.specs.Places.{BreaksCommit, HasNoLine}
+use Rattle.git_object.specs.Reading.{entries_in, parents_in}
 use Rattle.git_object.specs.declared.kind.Kind.TheVariants.{Tree, Commit, Tag}
 use Rattle.git_object.specs.declared.link.LinkTo.{LinkTo}
+use Rattle.git_object.proofs.Commits.{broken_no_commit, broken_rest, commit_parts}
+use Rattle.git_object.proofs.Lines.{HasReadParents, parents_end, parents_more, parents_read, parents_start}
 use Rattle.git_object.proofs.SpellingLaws.{commit_links_are, tag_links_are}
 use Rattle.git_object.proofs.TreeTexts.{tree_reads}
 
@@ -24,14 +31,61 @@ unfolding links
 tree_ended bytes left items h none =
     sym (h ∙ ap (λ (l : List Entry). items ++ tree_links l) none ∙ append-nil items)
 
--- the link to the tree of a commit is gathered
-pub commit_begun : (bytes : List ℕ) (commit : CommitValue) (left : List Oid) (items : List LinkTo) → SpellsCommit commit bytes
-    → items ≡ link_to commit.tree Tree ∷ [] → left ≡ commit.parents
-    → links Commit bytes ≡ items ++ map (λ parent. link_to parent Commit) left
-commit_begun bytes commit left items s one same =
-    commit_links_are commit bytes s
-    ∙ ap (λ (l : List Oid). link_to commit.tree Tree ∷ map (λ parent. link_to parent Commit) l) (sym same)
-    ∙ ap (λ (l : List LinkTo). l ++ map (λ parent. link_to parent Commit) left) (sym one)
+-- the links to the parents that were read
+pub record Gathered (bytes rest : List ℕ) (old new : List LinkTo) : Type 0 where
+  pub read : HasReadParents bytes rest
+  pub added : new ≡ old ++ map (λ parent. link_to parent Commit) read.parents
+
+-- none at the start
+pub gather_start : (bytes : List ℕ) (old : List LinkTo) → Gathered bytes bytes old old
+gather_start bytes old = record { read = parents_start bytes; added = sym (append-nil old) }
+
+-- one more
+pub gather_more : (bytes rest more : List ℕ) (old mid new : List LinkTo) (p : Oid)
+    → Gathered bytes rest old mid → IsOid p → rest ≡ oid_line (codes "parent ") p ++ more
+    → new ≡ mid ++ link_to p Commit ∷ [] → Gathered bytes more old new
+gather_more bytes rest more old mid new p g is h e = record {
+  read = parents_more bytes rest more p g.read is h;
+  added =
+      e ∙ ap (λ (l : List LinkTo). l ++ link_to p Commit ∷ []) g.added
+      ∙ append_assoc old (map (λ parent. link_to parent Commit) g.read.parents) (link_to p Commit ∷ [])
+      ∙ ap (λ (l : List LinkTo). old ++ l) (sym (map-append (λ parent. link_to parent Commit) g.read.parents (p ∷ [])));
+}
+
+-- all of them
+pub gather_end : (bytes rest : List ℕ) (old new : List LinkTo) → Gathered bytes rest old new
+    → HasNoLine (codes "parent ") rest → LinksParents bytes rest old new
+gather_end bytes rest old new g none = record { behind = parents_end bytes rest g.read none; added = g.added }
+
+module _ (bytes behind rest : List ℕ) (tree : Oid) (is : IsOid tree) (text : bytes ≡ oid_line (codes "tree ") tree ++ behind) where
+  -- the links of a commit are gathered
+  pub commit_ended : (items : List LinkTo) → LinksParents behind rest (link_to tree Tree ∷ []) items
+      → BeginsWith (codes "author ") rest → items ≡ links Commit bytes
+  commit_ended items l begins =
+      let s = commit_parts bytes behind rest tree is text l.behind begins in
+      let same : parents_in behind ≡ l.behind.parents =
+      ap parents_in l.behind.text ∙ parents_read l.behind.parents rest l.behind.each l.behind.no_parent in
+      l.added
+      ∙ ap (λ (ps : List Oid). link_to tree Tree ∷ map (λ parent. link_to parent Commit) ps) (sym same)
+      ∙ sym (commit_links_are (record { tree = tree; parents = parents_in behind; rest = rest }) bytes s)
+
+  pub commit_is : (old new : List LinkTo) → LinksParents behind rest old new
+      → BeginsWith (codes "author ") rest → IsCommit bytes
+  commit_is old new l begins = (_, commit_parts bytes behind rest tree is text l.behind begins)
+
+  -- or the bytes are broken behind them
+  pub commit_broken : (old new : List LinkTo) (place : ℕ) → LinksParents behind rest old new
+      → (BeginsWith (codes "author ") rest → ⊥) → place ≡ length bytes - length rest
+      → IsBadAt Commit bytes place
+  commit_broken old new place l none at =
+      let broken = broken_rest bytes behind rest tree place is text l.behind none at in
+      record { broken = broken; refused = broken_no_commit bytes place broken }
+
+-- no line of a tree stands at the front
+pub commit_no_tree : (bytes : List ℕ) → HasNoLine (codes "tree ") bytes → IsBadAt Commit bytes 0
+commit_no_tree bytes none =
+    let broken : BreaksCommit bytes 0 = inl (refl, none) in
+    record { broken = broken; refused = broken_no_commit bytes 0 broken }
 
 -- the link of a tag is gathered
 pub tag_ended : (bytes : List ℕ) (tag : TagValue) (items : List LinkTo) → SpellsTag tag bytes → items ≡ link_to tag.object tag.kind ∷ [] → items ≡ links Tag bytes

@@ -1,7 +1,8 @@
 -- The links of an object, in the order of its bytes.
-use Rattle.std.specs.Prelude.{ℕ, List, [], ◌∷◌, ◌++◌, map, Option, None, Some}
+use Rattle.std.specs.Prelude.{◌≡◌, ℕ, List, [], ◌∷◌, ◌++◌, map, Option, None, Some}
 use Rattle.rad_base.specs.declared.names.Oid.{Oid}
 use Rattle.git_object.specs.Grammar.{Commit, Entry, IsCommit, IsTag, IsTree, Tag}
+use Rattle.git_object.specs.Places.{StandsBehindParents}
 use Rattle.git_object.specs.Reading.{commit_in, entries_in, tag_in}
 use Rattle.git_object.specs.declared.kind.Kind.{Kind}
 use Rattle.git_object.specs.declared.kind.Kind.TheVariants as kinds
@@ -35,6 +36,11 @@ tree_links (entry ∷ entries) = link_if entry.oid (kind_of entry.mode) ++ tree_
 -- the tree, then each parent
 abbrev pub commit_links : Commit → List LinkTo
 commit_links commit = link_to commit.tree kinds.Tree ∷ map (λ parent. link_to parent kinds.Commit) commit.parents
+
+-- lines of parents stand in front of the rest, and their links were added
+pub record LinksParents (bytes rest : List ℕ) (old new : List LinkTo) : Type 0 where
+  pub behind : StandsBehindParents bytes rest
+  pub added : new ≡ old ++ map (λ parent. link_to parent kinds.Commit) behind.parents
 
 -- the object that the tag is put on
 abbrev pub tag_links : Tag → List LinkTo

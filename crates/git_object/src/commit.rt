@@ -7,7 +7,8 @@ ghost use Rattle.git_object.specs.Places.{BreaksCommit, HasNoLine, StandsBehindP
 ghost use Rattle.git_object.specs.Views.{commit_of, parents_of};
 
 use crate::Bad;
-use rad_base::{Oid, after, oid_text_front};
+use crate::digits::name_front;
+use rad_base::{Oid, after};
 
 /// The parents of a commit that are left, in order.
 #[derive(Clone, Copy, Debug)]
@@ -33,7 +34,7 @@ pub(crate) fn oid_line_at<'a>(bytes: &'a [u8], word: &[u8]) -> Option<(Oid, &'a 
     ensures none { IfNone result (HasNoLine word.now bytes.now) }
 {
     let digits = after(bytes, word)?;
-    let (oid, rest) = oid_text_front(digits)?;
+    let (oid, rest) = name_front(digits)?;
     let rest = after(rest, b"\n")?;
     Some((oid, rest))
 }

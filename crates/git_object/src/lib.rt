@@ -3,6 +3,7 @@
 
 mod bad;
 mod commit;
+mod digits;
 mod entry;
 mod kind;
 mod laws;

@@ -1,11 +1,12 @@
 // What an object links to.
-ghost use Rattle.std.specs.Prelude.{◌≡◌, ◌++◌, IfErr, IfOk};
+ghost use Rattle.std.specs.Prelude.{◌≡◌, ◌++◌, ◌-◌, length, IfErr, IfOk};
 ghost use Rattle.git_object.specs.Grammar.{IsCommit, IsTag, IsTree};
 ghost use Rattle.git_object.specs.Faults.{IsLinksFault};
-ghost use Rattle.git_object.specs.Links.{IsWellFormed, kind_of, links};
+ghost use Rattle.git_object.specs.Links.{IsWellFormed, LinksParents, kind_of, links};
 
-use crate::{Bad, Kind, Mode, read_commit, read_tag, read_tree};
-use rad_base::Oid;
+use crate::commit::oid_line_at;
+use crate::{Bad, Kind, Mode, read_tag, read_tree};
+use rad_base::{Oid, after};
 use std::alloc::{AllocFailed, Global};
 
 /// A link to an object, with what it must be.
@@ -74,20 +75,40 @@ fn tree_links(alloc: Global, bytes: &[u8]) -> Result<Vec<LinkTo>, LinksFault>
     Ok(found)
 }
 
-// The links of a commit.
+// Adds the links to the parents at the front, and answers what stands behind them.
+fn parent_links<'a>(
+    bytes: &'a [u8],
+    found: &mut Vec<LinkTo>,
+) -> Result<&'a [u8], AllocFailed<LinkTo>>
+    ensures { IfOk result
+        (λ rest. LinksParents bytes.now rest.now found.old.items found.new.items) }
+{
+    let kind = Kind::Commit;
+    let mut rest = bytes;
+    'reading: while let Some((oid, more)) = oid_line_at(rest, b"parent ") {
+        found.push(LinkTo { oid, kind })?;
+        rest = more;
+    }
+    Ok(rest)
+}
+
+// The links of a commit, whose lines are gone over once.
 fn commit_links(alloc: Global, bytes: &[u8]) -> Result<Vec<LinkTo>, LinksFault>
     ensures found { IfOk result (λ found. found.items ≡ links Kind.Commit bytes.now) }
     ensures commit { IfOk result (λ _. IsCommit bytes.now) }
     ensures fault { IfErr result (IsLinksFault Kind.Commit bytes.now) }
 {
-    let parts = read_commit(bytes)?;
+    let Some((oid, behind_tree)) = oid_line_at(bytes, b"tree ") else {
+        return Err(LinksFault::Bad(0));
+    };
     let mut found = Vec::new(alloc);
-    let (oid, kind) = (parts.tree, Kind::Tree);
+    let kind = Kind::Tree;
     found.push(LinkTo { oid, kind })?;
-    for oid in parts.parents {
-        let kind = Kind::Commit;
-        found.push(LinkTo { oid, kind })?;
-    }
+    let rest = parent_links(behind_tree, &mut found)?;
+    let Some(_) = after(rest, b"author ") else {
+        let place = bytes.len() - rest.len();
+        return Err(LinksFault::Bad(place));
+    };
     Ok(found)
 }
 
