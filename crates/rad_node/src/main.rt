@@ -38,6 +38,7 @@ pub use local::run_local;
 use rad_outside::{FileDisk, FileSource, StdSink};
 pub use status::{Status, WhichSource};
 use std::env;
+use std::fs::File;
 use std::io::ErrorKind;
 use std::process::ExitCode;
 
@@ -131,8 +132,25 @@ fn run(rt: &HostRuntime) -> Result<Status, Status> {
     run_command(rt, &words)
 }
 
+// A file without bytes that refuses writes. It takes the lowest descriptor that is free.
+fn open_nothing(rt: &HostRuntime) -> Result<File, Status> {
+    match File::open(rt, "/dev/null") {
+        Ok(nothing) => Ok(nothing),
+        Err(_) => Err(Status::WriteFault),
+    }
+}
+
+// Runs with the descriptors 0, 1 and 2 taken to its end. Where one of them is closed, no file of the
+// run then stands in its place, and what is printed there goes into none.
+fn run_apart(rt: &HostRuntime) -> Result<Status, Status> {
+    let _input = open_nothing(rt)?;
+    let _output = open_nothing(rt)?;
+    let _error = open_nothing(rt)?;
+    run(rt)
+}
+
 fn main(rt: HostRuntime) -> ExitCode {
-    let status = match run(&rt) {
+    let status = match run_apart(&rt) {
         Ok(status) => status,
         Err(status) => status,
     };
