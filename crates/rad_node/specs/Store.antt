@@ -1,6 +1,7 @@
 -- What opening a store without entries answers, and what appending to it makes of it.
-use Rattle.std.specs.Prelude.{ℕ, List, [], ◌++◌, Option, Result, Ok, Err}
+use Rattle.std.specs.Prelude.{ℕ, List, [], ◌++◌, Option, None, Result, Ok, Err}
 use Rattle.rad_base.specs.Faults.{Rose}
+use Rattle.rad_outside.specs.Disks.{Within}
 use Rattle.ref_journal.specs.Holds.{Holds}
 use Rattle.ref_journal.specs.Moments.{HasBodies}
 use Rattle.ref_journal.specs.declared.journal.Journal.{Journal}
@@ -27,6 +28,19 @@ abbrev pub IsNotEmpty : {D : Type 0} → List ℕ → StoreFault D → Type 0
 IsNotEmpty bytes (DiskFault disk) = Unit {0}
 IsNotEmpty bytes (NotEmpty disk) = HasBodies [] bytes → ⊥
 
--- a journal that held some bodies holds these behind them
-abbrev pub Grows : {D : Type 0} → (D → Option (List ℕ)) → (D → List ℕ → Type 0) → Journal D → Journal D → List (List ℕ) → Type 0
-Grows reads images old new entries = (bodies : List (List ℕ)) → Holds reads images old bodies → Holds reads images new (bodies ++ entries)
+-- a journal has these bodies, and none is in doubt
+unfoldable pub HasAll : {D : Type 0} → (D → Option (List ℕ)) → (D → List ℕ → Type 0) → Journal D
+    → List (List ℕ) → Type 0
+HasAll reads images journal bodies = Holds reads images journal bodies None
+
+-- a journal that had some bodies has these behind them
+abbrev pub Adds : {D : Type 0} → (D → Option (List ℕ)) → (D → List ℕ → Type 0) → Journal D
+    → Journal D → List (List ℕ) → Type 0
+Adds reads images old new entries = (bodies : List (List ℕ))
+    → HasAll reads images old bodies → HasAll reads images new (bodies ++ entries)
+
+-- where a journal had no body, each image that a crash now may leave has these and no others
+abbrev pub Grows : {D : Type 0} → (D → Option (List ℕ)) → (D → List ℕ → Type 0) → Journal D
+    → Journal D → List (List ℕ) → Type 0
+Grows reads images old new entries =
+    HasAll reads images old [] → Within (images new.disk) (HasBodies entries)

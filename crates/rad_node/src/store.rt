@@ -1,8 +1,10 @@
 // The store that an import writes: a journal without entries, and what is appended to it.
 ghost use Rattle.std.specs.Prelude.{◌≡◌, ◌≤◌, ◌+◌, ◌*◌, ◌^◌, [], length, IfErr, IfOk, IfSome, OnOk};
 ghost use Rattle.rad_outside.specs.Causes.{HasCause};
-ghost use Rattle.ref_journal.specs.Holds.{Holds, OnlyReads};
-ghost use Rattle.rad_node.specs.Store.{Grows, HasStoreCause, IsNotEmpty, opened_disk};
+ghost use Rattle.ref_journal.specs.Holds.{OnlyReads};
+ghost use Rattle.ref_journal.specs.Moments.{HasBodies};
+ghost use Rattle.rad_node.specs.Store.{Adds, Grows, HasAll, HasStoreCause, IsNotEmpty};
+ghost use Rattle.rad_node.specs.Store.{opened_disk};
 ghost use Rattle.rad_node.specs.Works.{AreSmall};
 
 use rad_outside::{Disk, Failed};
@@ -23,11 +25,13 @@ pub(crate) enum StoreFault<D> {
 /// Opens the journal of a store that has no entries. `DiskFault` where the disk failed, `NotEmpty`
 /// where the store is no journal, a damaged one or one with entries. Either gives the disk back.
 pub(crate) fn open_empty<D: Disk>(disk: D) -> Result<Journal<D>, StoreFault<D>>
-    ensures reads { OnlyReads D.loan D.faults D.reads_as D.images disk (opened_disk result) }
+    ensures reads { OnlyReads D.loan D.faults D.reads_as D.images D.moment D.images_since
+        disk (opened_disk result) }
     ensures cause { IfErr result (HasStoreCause (D.faults disk) D.faults) }
     ensures place { IfOk result (λ journal. journal.end ≡ 8) }
     ensures empty { IfOk result (λ journal.
-        IfSome (D.reads_as disk) (λ _. Holds D.reads_as D.images journal [])) }
+        IfSome (D.reads_as disk) (λ _. HasAll D.reads_as D.images journal [])) }
+    ensures was { IfOk result (λ _. IfSome (D.reads_as disk) (HasBodies [])) }
     ensures other { IfErr result (λ fault.
         IfSome (D.reads_as disk) (λ bytes. IsNotEmpty bytes fault)) }
 {
@@ -54,12 +58,13 @@ pub(crate) fn append_all<D: Disk>(
     requires small { AreSmall entries.now }
     ensures stays { D.loan journal.new.disk ≡ D.loan journal.old.disk }
     ensures cause { HasCause (D.faults journal.old.disk) (D.faults journal.new.disk) result }
+    ensures adds { OnOk result (Adds D.reads_as D.images journal.old journal.new entries.now) }
     ensures grows { OnOk result (Grows D.reads_as D.images journal.old journal.new entries.now) }
 {
     'appending: for entry in entries {
         match journal.append(entry) {
             Ok(_) => {}
-            Err(AppendFault::DiskFault) => return Err(Failed),
+            Err(AppendFault::DiskFault { .. }) => return Err(Failed),
             Err(AppendFault::Full) => return Err(Failed),
         }
     }

@@ -1,5 +1,5 @@
 -- The walk over the gates.
-use Rattle.std.proofs.Common.{◌≡◌, ℕ, List, [], ◌∷◌, ◌++◌, length, take, drop, Option, None, Some, inr, refl, sym, ap, subst, ◌∙◌, arith, append_assoc, length-append, take-append-drop}
+use Rattle.std.proofs.Common.{◌≡◌, ℕ, List, [], ◌∷◌, ◌++◌, length, take, drop, Option, None, Some, inl, inr, refl, sym, ap, subst, ◌∙◌, arith, append_assoc, length-append, take-append-drop}
 use Rattle.std.specs.Prelude.{IfSome}
 use Rattle.std.specs.Io.KnownBytes.{Keeps}
 use Rattle.std.proofs.KnownBytes.{Keeps-refl, Keeps-trans}
@@ -8,28 +8,39 @@ use Rattle.ref_journal.specs.Frames.{IsBody, header, record_of, records}
 use Rattle.ref_journal.specs.Images.{Begins}
 use Rattle.ref_journal.specs.Gates.{IsBrokenGate, IsClosed, IsGate, IsOpen, IsShown}
 use Rattle.ref_journal.specs.Holds.{OnlyReads}
+use Rattle.ref_journal.specs.Moments.{Passes}
 use Rattle.ref_journal.specs.declared.gate.Gate.TheVariants.{Broken, Closed, Open}
 use Rattle.ref_journal.specs.declared.walk.Shown.TheVariants.{Damaged, End}
 use Rattle.ref_journal.proofs.Records.{length-record_of, text-push}
 
+-- time goes on twice, where what the second call may leave the first may leave
+pub passes_on : (m0 m1 m2 : ℕ) (s0 s1 s2 : ℕ → List ℕ → Type 0) (P Q : List ℕ → Type 0) → Passes m0 m1 s0 s1 P → Passes m1 m2 s1 s2 Q
+    → ((image : List ℕ) → Q image → P image) → Passes m0 m2 s0 s2 P
+passes_on m0 m1 m2 s0 s1 s2 P Q h k within = record {
+  later = omega (arith, h.later, k.later);
+  before = λ t image low is. elim (k.before t image (omega (arith, low, h.later)) is) [ inl past ↦ h.before t image low past | inr has ↦ inr (within image has) ];
+}
+
 -- two calls that only read
-pub only_reads_on : {D : Type 0} (loan faults : D → ℕ) (reads : D → Option (List ℕ)) (images : D → List ℕ → Type 0) (a b c : D)
-    → OnlyReads loan faults reads images a b → OnlyReads loan faults reads images b c → OnlyReads loan faults reads images a c
-only_reads_on loan faults reads images a b c h k = record {
+pub only_reads_on : {D : Type 0} (loan faults : D → ℕ) (reads : D → Option (List ℕ)) (images : D → List ℕ → Type 0) (moment : D → ℕ) (since : D → ℕ → List ℕ → Type 0) (a b c : D)
+    → OnlyReads loan faults reads images moment since a b → OnlyReads loan faults reads images moment since b c → OnlyReads loan faults reads images moment since a c
+only_reads_on loan faults reads images moment since a b c h k = record {
   stays = k.stays ∙ h.stays;
   later = omega (arith, h.later, k.later);
   same = Keeps-trans (reads a) (reads b) (reads c) h.same k.same;
   within = λ image is. h.within image (k.within image is);
+  time = passes_on _ _ _ _ _ _ _ _ h.time k.time h.within;
 }
 
 -- no call
-pub only_reads_none : {D : Type 0} (loan faults : D → ℕ) (reads : D → Option (List ℕ)) (images : D → List ℕ → Type 0) (a : D)
-    → OnlyReads loan faults reads images a a
-only_reads_none loan faults reads images a = record {
+pub only_reads_none : {D : Type 0} (loan faults : D → ℕ) (reads : D → Option (List ℕ)) (images : D → List ℕ → Type 0) (moment : D → ℕ) (since : D → ℕ → List ℕ → Type 0) (a : D)
+    → OnlyReads loan faults reads images moment since a a
+only_reads_none loan faults reads images moment since a = record {
   stays = refl;
   later = omega arith;
   same = Keeps-refl (reads a);
   within = λ image is. is;
+  time = record { later = omega arith; before = λ t image low is. inl is };
 }
 
 -- the bytes are a journal's up to the gate at this place

@@ -1,33 +1,61 @@
 -- What a journal holds, and what its calls keep.
-use Rattle.std.specs.Prelude.{◌≡◌, ℕ, ◌≤◌, List, Option, Some}
+use Rattle.std.specs.Prelude.{Bool, ◌≡◌, ◌⊎◌, ℕ, ◌≤◌, List, true, false, Option, None, Some}
+use Rattle.std.specs.Option.{is_some}
 use Rattle.std.specs.Io.KnownBytes.{Keeps}
-use Rattle.rad_outside.specs.Disks.{Only, Within}
-use Rattle.ref_journal.specs.Images.{IsJournal}
-use Rattle.ref_journal.specs.Moments.{LeavesOnly}
+use Rattle.rad_base.specs.Faults.{Rose}
+use Rattle.rad_outside.specs.Disks.{Within}
+use Rattle.ref_journal.specs.Images.{IsLeft}
+use Rattle.ref_journal.specs.Moments.{LeavesOnly, Passes}
+use Rattle.ref_journal.specs.declared.faults.AppendFault.{AppendFault}
+use Rattle.ref_journal.specs.declared.faults.AppendFault.TheVariants.{Full, DiskFault}
 use Rattle.ref_journal.specs.declared.journal.Journal.{Journal}
 
--- a disk tells that it reads as a journal of these bodies with this end, and a crash now leaves
--- nothing else
-pub record Stores (reads : Option (List ℕ)) (images : List ℕ → Type 0)
-    (bodies : List (List ℕ)) (end : ℕ) : Type 0 where
+-- a disk tells what it reads as, and that and each image that a crash now may leave has P
+pub record Tells (P : List ℕ → Type 0) (reads : Option (List ℕ)) (images : List ℕ → Type 0)
+    : Type 0 where
   pub bytes : List ℕ
   pub told : reads ≡ Some bytes
-  pub text : IsJournal bodies end bytes
-  pub only : Only bytes images
+  pub has : P bytes
+  pub each : (image : List ℕ) → images image → P image
 
--- the journal's disk stores these bodies up to the journal's end
+-- a disk tells that it has these bodies up to this place, and in every image the same body in
+-- doubt, or none, and it is known whether one is
+pub record Stores (reads : Option (List ℕ)) (images : List ℕ → Type 0) (end : ℕ) (in_doubt : Bool)
+    (bodies : List (List ℕ)) (doubt : Option (List ℕ)) : Type 0 where
+  pub tells : Tells (IsLeft bodies doubt end) reads images
+  pub flag : in_doubt ≡ is_some doubt
+
+-- the journal's disk stores these bodies up to the journal's end, with that doubt
 abbrev pub Holds : {D : Type 0} → (D → Option (List ℕ)) → (D → List ℕ → Type 0) → Journal D
-    → List (List ℕ) → Type 0
-Holds reads images journal bodies =
-    Stores (reads journal.disk) (images journal.disk) bodies journal.end
+    → List (List ℕ) → Option (List ℕ) → Type 0
+Holds reads images journal bodies doubt =
+    Stores (reads journal.disk) (images journal.disk) journal.end journal.in_doubt bodies doubt
 
--- a call that only reads: the same disk, with the same bytes, no new image and no fewer faults
+-- What an append that was refused leaves of a journal of these bodies with that doubt. After a disk
+-- fault the body is in doubt, or a mend that came first ended the doubt, or the doubt is what it was.
+abbrev pub LeavesDoubt : {D : Type 0} → (D → Option (List ℕ)) → (D → List ℕ → Type 0)
+    → List (List ℕ) → Option (List ℕ) → List ℕ → Journal D → AppendFault → Type 0
+LeavesDoubt reads images bodies doubt body new Full = Holds reads images new bodies doubt
+LeavesDoubt reads images bodies doubt body new (DiskFault true) =
+    Holds reads images new bodies (Some body)
+LeavesDoubt reads images bodies doubt body new (DiskFault false) =
+    Holds reads images new bodies None ⊎ Holds reads images new bodies doubt
+
+-- a disk fault comes only where the count rose
+abbrev pub HasAppendCause : ℕ → ℕ → AppendFault → Type 0
+HasAppendCause before now Full = Unit {0}
+HasAppendCause before now (DiskFault left) = Rose before now
+
+-- a call that only reads: the same disk, with the same bytes, no new image, now or at any moment of
+-- the call, and no fewer faults
 pub record OnlyReads {D : Type 0} (loan faults : D → ℕ) (reads : D → Option (List ℕ))
-    (images : D → List ℕ → Type 0) (old new : D) : Type 0 where
+    (images : D → List ℕ → Type 0) (moment : D → ℕ) (since : D → ℕ → List ℕ → Type 0)
+    (old new : D) : Type 0 where
   pub stays : loan new ≡ loan old
   pub later : faults old ≤ faults new
   pub same : Keeps (reads old) (reads new)
   pub within : Within (images new) (images old)
+  pub time : Passes (moment old) (moment new) (since old) (since new) (images old)
 
 -- a crash at any moment between two disks leaves an image that has P
 abbrev pub LeavesOnlyBetween : {D : Type 0} → (D → ℕ) → (D → ℕ → List ℕ → Type 0) → D → D

@@ -1,8 +1,8 @@
 -- What bytes are: a journal of a list of bodies, no journal yet, or damaged at a place.
 use Rattle.std.specs.Prelude.{◌≡◌, ◌≢◌, ◌⊎◌, ℕ, ◌+◌, ◌<◌, ◌≤◌, ◌^◌, List, ◌∷◌, ◌++◌, length}
-use Rattle.std.specs.Prelude.{take, slice_index}
+use Rattle.std.specs.Prelude.{Option, None, Some, take, slice_index}
 use Rattle.std.specs.Int.{to_be_bytes, w64}
-use Rattle.ref_journal.specs.Frames.{AreBodies, gate_behind, header, records}
+use Rattle.ref_journal.specs.Frames.{AreBodies, IsBody, frame_of, gate_behind, header, records}
 
 -- the bytes are the header and a record of each body, and the rest from this place on
 pub record Begins (bodies : List (List ℕ)) (place : ℕ) (rest bytes : List ℕ) : Type 0 where
@@ -17,6 +17,20 @@ pub record IsJournal (bodies : List (List ℕ)) (end : ℕ) (bytes : List ℕ) :
   pub unread : List ℕ
   pub closed : gate ≢ 1
   pub begins : Begins bodies end (gate ∷ unread) bytes
+
+-- the bytes are a journal of these bodies up to this place, where the gate of one more stands: its
+-- frame is whole, and the gate is any byte
+pub record IsInDoubt (bodies : List (List ℕ)) (body : List ℕ) (end : ℕ) (bytes : List ℕ)
+    : Type 0 where
+  pub fits : IsBody body
+  pub gate : ℕ
+  pub unread : List ℕ
+  pub begins : Begins bodies end (gate ∷ (frame_of body ++ unread)) bytes
+
+-- the bytes are a journal of these bodies with this end, or the body in doubt stands there
+abbrev pub IsLeft : List (List ℕ) → Option (List ℕ) → ℕ → List ℕ → Type 0
+IsLeft bodies None end bytes = IsJournal bodies end bytes
+IsLeft bodies (Some body) end bytes = IsInDoubt bodies body end bytes
 
 -- no journal is made: there are fewer than 9 bytes, or the first is not 1
 abbrev pub IsUnmade : List ℕ → Type 0

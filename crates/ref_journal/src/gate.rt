@@ -30,7 +30,8 @@ fn is_open(gate: u8) -> bool
 // Reads the gate at a place of a disk of this size, with the length behind it.
 pub(crate) fn gate_at<D: Disk>(disk: &mut D, size: u64, place: u64) -> Result<Gate, Failed>
     requires { place < size }
-    ensures reads { OnlyReads D.loan D.faults D.reads_as D.images disk.old disk.new }
+    ensures reads { OnlyReads D.loan D.faults D.reads_as D.images D.moment D.images_since
+        disk.old disk.new }
     ensures cause { HasCause (D.faults disk.old) (D.faults disk.new) result }
     ensures gate { IfOk result (λ gate. IfSome (D.reads_as disk.old)
         (λ bytes. size ≡ length bytes → IsGate bytes place gate)) }
@@ -63,7 +64,8 @@ pub(crate) fn gate_at<D: Disk>(disk: &mut D, size: u64, place: u64) -> Result<Ga
 fn short_gate_at<D: Disk>(disk: &mut D, size: u64, place: u64) -> Result<Gate, Failed>
     requires inside { place < size }
     requires short { size < place + 10 }
-    ensures reads { OnlyReads D.loan D.faults D.reads_as D.images disk.old disk.new }
+    ensures reads { OnlyReads D.loan D.faults D.reads_as D.images D.moment D.images_since
+        disk.old disk.new }
     ensures cause { HasCause (D.faults disk.old) (D.faults disk.new) result }
     ensures gate { IfOk result (λ gate. IfSome (D.reads_as disk.old)
         (λ bytes. size ≡ length bytes → IsGate bytes place gate)) }

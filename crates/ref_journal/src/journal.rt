@@ -1,14 +1,21 @@
 // The journal with the disk that it holds.
-ghost use Rattle.std.specs.Prelude.{◌≡◌, ◌↔◌, ◌≤◌, ◌<◌, ◌^◌, ◌+◌, ◌++◌, ◌∷◌, [], if◌then◌else◌};
-ghost use Rattle.std.specs.Prelude.{length, List, ℕ, Some, is_ok, IfErr, IfNone, IfOk, IfSome};
-ghost use Rattle.std.specs.Prelude.{IsErrOf, IsNone, OnOk};
+ghost use Rattle.std.specs.Prelude.{◌≡◌, ◌⊎◌, ◌↔◌, ◌≤◌, ◌<◌, ◌^◌, ◌+◌, ◌++◌, ◌∷◌, []};
+ghost use Rattle.std.specs.Prelude.{if◌then◌else◌, false, length, List, ℕ, Option, None, Some, Err};
+ghost use Rattle.std.specs.Prelude.{is_ok, IfErr, IfNone, IfOk, IfSome};
+ghost use Rattle.std.specs.Prelude.{IsErrOf, IsNone, IsOk, OnErr, OnOk};
+ghost use Rattle.rad_outside.specs.Causes.{HasCause};
+ghost use Rattle.ref_journal.specs.Frames.{IsBody, frame_of, header, records};
+ghost use Rattle.ref_journal.specs.Gates.{StandsAt};
+ghost use Rattle.ref_journal.specs.Makes.{HasMakeCause, HasNoMark, IsMade, IsUnmadeOrEmpty};
+ghost use Rattle.ref_journal.specs.Makes.{made_disk};
 ghost use Rattle.rad_base.specs.Faults.{Rose};
 ghost use Rattle.ref_journal.specs.Frames.{gate_behind};
-ghost use Rattle.ref_journal.specs.Moments.{HasBodiesOrOneMore};
+ghost use Rattle.ref_journal.specs.Moments.{HasBodiesOrOneMore, MayHave};
 
+use crate::make::{is_made, lay_header};
 use crate::record::{read_body, write_durably};
 use crate::walk::{Shown, find_end};
-use crate::{AppendFault, OpenFault, Parcel, ScanFault};
+use crate::{AppendFault, MakeFault, OpenFault, Parcel, ScanFault};
 use rad_outside::{Disk, Failed};
 
 /// The most bytes that a journal has.
@@ -24,16 +31,20 @@ const LIMIT: u64 = 1 << 40;
 pub struct Journal<D> {
     disk: D,
     end: u64,
+    // Whether a body is in doubt: an image may have it behind the end gate or not.
+    in_doubt: bool,
 }
 
 impl<D: Disk> Journal<D> {
-    ghost use Rattle.ref_journal.specs.Holds.{Holds, LeavesOnlyBetween, OnlyReads};
+    ghost use Rattle.ref_journal.specs.Holds.{HasAppendCause, Holds, LeavesDoubt};
+    ghost use Rattle.ref_journal.specs.Holds.{LeavesOnlyBetween, OnlyReads, Tells};
     ghost use Rattle.ref_journal.specs.Opens.{HasOpenCause, IsOpened, opened_disk};
 
     /// Opens the journal that stands on a disk, after a sync. It writes nothing, and takes no
     /// memory. A refusal gives the disk back.
     pub fn open(mut disk: D) -> Result<Journal<D>, OpenFault<D>>
-        ensures reads { OnlyReads D.loan D.faults D.reads_as D.images disk (opened_disk result) }
+        ensures reads { OnlyReads D.loan D.faults D.reads_as D.images D.moment D.images_since
+            disk (opened_disk result) }
         ensures cause { IfErr result (HasOpenCause (D.faults disk) D.faults) }
         ensures opened { IfSome (D.reads_as disk)
             (λ bytes. IsOpened D.reads_as D.images bytes result) }
@@ -42,42 +53,142 @@ impl<D: Disk> Journal<D> {
             Err(Failed) => Err(OpenFault::DiskFault(disk)),
             Ok(Shown::Unmade) => Err(OpenFault::Unmade(disk)),
             Ok(Shown::Damaged(place)) => Err(OpenFault::Damaged(disk, place)),
-            Ok(Shown::End(end)) => Ok(Journal { disk, end }),
+            Ok(Shown::End(end)) => Ok(Journal {
+                disk,
+                end,
+                in_doubt: false,
+            }),
         }
     }
 
-    /// Adds a body at the end, and answers the place where it stands. At Ok it is on the disk for
-    /// good, and a crash at any moment of the call leaves the bodies with it or without it.
-    /// `Full`: the journal would be longer than 2^40 bytes; it serves as before. `DiskFault`: a
-    /// call of the disk failed; close the journal. It takes no memory.
+    /// Makes a journal without a body on a disk that has none. `AlreadyMade`: the disk has 9 bytes
+    /// or more and its first is 1; it stays as it was. `DiskFault`: a call of the disk failed.
+    /// Either gives the disk back. Where every image had a first byte other than 1 before, a crash
+    /// at any moment leaves no journal or one without a body. It takes no memory.
+    pub fn make(mut disk: D) -> Result<Journal<D>, MakeFault<D>>
+        ensures stays { D.loan (made_disk result) ≡ D.loan disk }
+        ensures later { D.faults disk ≤ D.faults (made_disk result) }
+        ensures cause { IfErr result (HasMakeCause (D.faults disk) D.faults) }
+        ensures made { IfSome (D.reads_as disk)
+            (λ bytes. IsMade D.reads_as D.images bytes result) }
+        ensures kept { (back : D) → result ≡ Err (MakeFault.AlreadyMade back)
+            → OnlyReads D.loan D.faults D.reads_as D.images D.moment D.images_since disk back }
+        ensures moments { Tells HasNoMark (D.reads_as disk) (D.images disk)
+            → LeavesOnlyBetween D.moment D.images_since disk (made_disk result) IsUnmadeOrEmpty }
+    {
+        match is_made(&mut disk) {
+            Err(Failed) => return Err(MakeFault::DiskFault(disk)),
+            Ok(true) => return Err(MakeFault::AlreadyMade(disk)),
+            Ok(false) => {}
+        }
+        match lay_header(&mut disk) {
+            Err(Failed) => Err(MakeFault::DiskFault(disk)),
+            Ok(()) => Ok(Journal {
+                disk,
+                end: 8,
+                in_doubt: false,
+            }),
+        }
+    }
+
+    /// Adds a body at the end, and answers the place where it stands. Where a body is in doubt it
+    /// mends first. At Ok the body is on the disk for good, and a crash at any moment of the call
+    /// leaves the bodies with it or without it. `Full`: the journal would be longer than 2^40
+    /// bytes; no call of the disk was made. `DiskFault`: a call of the disk failed; it says whether
+    /// this body is in doubt now. It takes no memory.
     pub fn append(&mut self, parcel: &Parcel) -> Result<u64, AppendFault>
         ensures stays { D.loan self.new.disk ≡ D.loan self.old.disk }
         ensures later { D.faults self.old.disk ≤ D.faults self.new.disk }
-        ensures cause { IsErrOf result AppendFault.DiskFault
-            → Rose (D.faults self.old.disk) (D.faults self.new.disk) }
+        ensures cause { IfErr result (HasAppendCause (D.faults self.old.disk)
+            (D.faults self.new.disk)) }
         ensures full { IsErrOf result AppendFault.Full
             ↔ (2 ^ 40 < self.old.end + 10 + length parcel.now) }
         ensures unchanged { IsErrOf result AppendFault.Full → self.new ≡ self.old }
         ensures place { IfOk result (λ place. place ≡ self.old.end + 9) }
         ensures end { self.new.end
             ≡ (if is_ok result then self.old.end + 9 + length parcel.now else self.old.end) }
-        ensures holds { OnOk result ((bodies : List (List ℕ))
-            → Holds D.reads_as D.images self.old bodies
-            → Holds D.reads_as D.images self.new (bodies ++ parcel.now ∷ [])) }
-        ensures moments { (bodies : List (List ℕ)) → Holds D.reads_as D.images self.old bodies
+        ensures holds { OnOk result ((bodies : List (List ℕ)) (doubt : Option (List ℕ))
+            → Holds D.reads_as D.images self.old bodies doubt
+            → Holds D.reads_as D.images self.new (bodies ++ parcel.now ∷ []) None) }
+        ensures left { IfErr result (λ fault. (bodies : List (List ℕ)) (doubt : Option (List ℕ))
+            → Holds D.reads_as D.images self.old bodies doubt
+            → LeavesDoubt D.reads_as D.images bodies doubt parcel.now self.new fault) }
+        ensures moments { (bodies : List (List ℕ)) (doubt : Option (List ℕ))
+            → Holds D.reads_as D.images self.old bodies doubt
             → LeavesOnlyBetween D.moment D.images_since self.old.disk self.new.disk
-            (HasBodiesOrOneMore bodies parcel.now) }
+            (λ image. MayHave bodies doubt image ⊎ HasBodiesOrOneMore bodies parcel.now image) }
     {
         let frame = parcel.framed();
         let size = frame.len() as u64;
         if self.end > LIMIT - 1 - size {
             return Err(AppendFault::Full);
         }
-        write_durably(&mut self.disk, self.end + 1, frame)?;
-        write_durably(&mut self.disk, self.end, &[1])?;
+        self.mend()?;
         let place = self.end + 9;
-        self.end += size;
+        self.enter(frame)?;
         Ok(place)
+    }
+
+    /// Where a body is in doubt it closes the gate behind which that body stands, and syncs: at Ok
+    /// no image has it. Else it makes no call of the disk and answers Ok. It takes no memory.
+    pub fn mend(&mut self) -> Result<(), Failed>
+        ensures stays { D.loan self.new.disk ≡ D.loan self.old.disk }
+        ensures cause { HasCause (D.faults self.old.disk) (D.faults self.new.disk) result }
+        ensures end { self.new.end ≡ self.old.end }
+        ensures idle { self.old.in_doubt ≡ false → IsOk result × (self.new ≡ self.old) }
+        ensures mended { OnOk result ((bodies : List (List ℕ)) (doubt : Option (List ℕ))
+            → Holds D.reads_as D.images self.old bodies doubt
+            → Holds D.reads_as D.images self.new bodies None) }
+        ensures kept { OnErr result ((bodies : List (List ℕ)) (doubt : Option (List ℕ))
+            → Holds D.reads_as D.images self.old bodies doubt
+            → Holds D.reads_as D.images self.new bodies doubt) }
+        ensures moments { (bodies : List (List ℕ)) (doubt : Option (List ℕ))
+            → Holds D.reads_as D.images self.old bodies doubt
+            → LeavesOnlyBetween D.moment D.images_since self.old.disk self.new.disk
+            (MayHave bodies doubt) }
+    {
+        if self.in_doubt {
+            write_durably(&mut self.disk, self.end, &[0])?;
+            self.in_doubt = false;
+        }
+        Ok(())
+    }
+
+    // Adds the body of a frame where none is in doubt.
+    fn enter(&mut self, frame: &[u8]) -> Result<(), AppendFault>
+        requires { self.old.end + length frame.now < 2 ^ 40 }
+        ensures stays { D.loan self.new.disk ≡ D.loan self.old.disk }
+        ensures later { D.faults self.old.disk ≤ D.faults self.new.disk }
+        ensures cause { IfErr result (HasAppendCause (D.faults self.old.disk)
+            (D.faults self.new.disk)) }
+        ensures end { self.new.end
+            ≡ (if is_ok result then self.old.end + length frame.now else self.old.end) }
+        ensures not_full { IsErrOf result AppendFault.Full → ⊥ }
+        ensures holds { OnOk result ((bodies : List (List ℕ)) (body : List ℕ)
+            → frame.now ≡ frame_of body → IsBody body
+            → Holds D.reads_as D.images self.old bodies None
+            → Holds D.reads_as D.images self.new (bodies ++ body ∷ []) None) }
+        ensures left { IfErr result (λ fault. (bodies : List (List ℕ)) (body : List ℕ)
+            → frame.now ≡ frame_of body → IsBody body
+            → Holds D.reads_as D.images self.old bodies None
+            → LeavesDoubt D.reads_as D.images bodies None body self.new fault) }
+        ensures moments { (bodies : List (List ℕ)) (body : List ℕ)
+            → frame.now ≡ frame_of body → IsBody body
+            → Holds D.reads_as D.images self.old bodies None
+            → LeavesOnlyBetween D.moment D.images_since self.old.disk self.new.disk
+            (HasBodiesOrOneMore bodies body) }
+    {
+        write_durably(&mut self.disk, self.end + 1, frame)?;
+        match write_durably(&mut self.disk, self.end, &[1]) {
+            Ok(()) => {
+                self.end += frame.len() as u64;
+                Ok(())
+            }
+            Err(Failed) => {
+                self.in_doubt = true;
+                Err(AppendFault::DiskFault { in_doubt: true })
+            }
+        }
     }
 
     /// Reads the body behind the gate at a place, and answers the place of the next gate. The first
@@ -85,7 +196,8 @@ impl<D: Disk> Journal<D> {
     /// may hold anything: `DiskFault` where a call of the disk failed, `NoMemory` where memory for
     /// the body was refused.
     pub fn scan(&mut self, place: u64, into: &mut Vec<u8>) -> Result<Option<u64>, ScanFault>
-        ensures reads { OnlyReads D.loan D.faults D.reads_as D.images self.old.disk self.new.disk }
+        ensures reads { OnlyReads D.loan D.faults D.reads_as D.images D.moment D.images_since
+            self.old.disk self.new.disk }
         ensures end { self.new.end ≡ self.old.end }
         ensures cause { IsErrOf result ScanFault.DiskFault
             → Rose (D.faults self.old.disk) (D.faults self.new.disk) }
@@ -93,8 +205,13 @@ impl<D: Disk> Journal<D> {
         ensures empty { IfOk result (λ next. IfNone next (into.new.items ≡ [])) }
         ensures rises { IfOk result (λ next. IfSome next
             (λ gate. (place < gate) × (gate ≤ self.old.end))) }
+        ensures same { self.new.in_doubt ≡ self.old.in_doubt }
+        ensures keeps { (bodies : List (List ℕ)) (doubt : Option (List ℕ))
+            → Holds D.reads_as D.images self.old bodies doubt
+            → Holds D.reads_as D.images self.new bodies doubt }
         ensures body { IfOk result (λ next. (before after : List (List ℕ)) (body : List ℕ)
-            → Holds D.reads_as D.images self.old (before ++ body ∷ after)
+            (doubt : Option (List ℕ))
+            → Holds D.reads_as D.images self.old (before ++ body ∷ after) doubt
             → place ≡ gate_behind before
             → (next ≡ Some (gate_behind (before ++ body ∷ []))) × (into.new.items ≡ body)) }
     {
@@ -105,6 +222,33 @@ impl<D: Disk> Journal<D> {
         }
         let size = read_body(&mut self.disk, place, left - 9, into)?;
         Ok(Some(place + 9 + size))
+    }
+
+    /// Reads the bytes of the journal from a place on that fill `into`, and end at the journal's
+    /// end or before it. `Failed`: a call of the disk failed, and `into` may hold anything. It
+    /// takes no memory. Of a disk that was cut short by another it fills only the front.
+    pub fn piece(&mut self, place: u64, into: &mut [u8]) -> Result<(), Failed>
+        requires { place + length into.old ≤ self.old.end }
+        ensures reads { OnlyReads D.loan D.faults D.reads_as D.images D.moment D.images_since
+            self.old.disk self.new.disk }
+        ensures end { self.new.end ≡ self.old.end }
+        ensures same { self.new.in_doubt ≡ self.old.in_doubt }
+        ensures cause { HasCause (D.faults self.old.disk) (D.faults self.new.disk) result }
+        ensures keeps { (bodies : List (List ℕ)) (doubt : Option (List ℕ))
+            → Holds D.reads_as D.images self.old bodies doubt
+            → Holds D.reads_as D.images self.new bodies doubt }
+        ensures bytes { OnOk result ((bodies : List (List ℕ)) (doubt : Option (List ℕ))
+            → Holds D.reads_as D.images self.old bodies doubt
+            → StandsAt (header ++ records bodies) place into.new) }
+    {
+        self.disk.read_at(place, into)?;
+        Ok(())
+    }
+
+    // The disk, for tests alone.
+    #[cfg(test)]
+    pub(crate) fn disk(&self) -> &D {
+        &self.disk
     }
 
     /// The place of the end gate.

@@ -10,7 +10,8 @@ use rad_outside::{Disk, Failed};
 
 // Fills the buffer from a place, where the disk has that many bytes there.
 pub(crate) fn fills<D: Disk>(disk: &mut D, place: u64, into: &mut [u8]) -> Result<bool, Failed>
-    ensures reads { OnlyReads D.loan D.faults D.reads_as D.images disk.old disk.new }
+    ensures reads { OnlyReads D.loan D.faults D.reads_as D.images D.moment D.images_since
+        disk.old disk.new }
     ensures cause { HasCause (D.faults disk.old) (D.faults disk.new) result }
     ensures bytes { IfOk result (λ whole. OnTrue whole
         (IfSome (D.reads_as disk.old) (λ bytes. StandsAt bytes place into.new))) }
@@ -23,7 +24,8 @@ pub(crate) fn fills<D: Disk>(disk: &mut D, place: u64, into: &mut [u8]) -> Resul
 
 // The number in eight bytes at a place, or None where the disk ends before the eighth.
 pub(crate) fn number_at<D: Disk>(disk: &mut D, place: u64) -> Result<Option<u64>, Failed>
-    ensures reads { OnlyReads D.loan D.faults D.reads_as D.images disk.old disk.new }
+    ensures reads { OnlyReads D.loan D.faults D.reads_as D.images D.moment D.images_since
+        disk.old disk.new }
     ensures cause { HasCause (D.faults disk.old) (D.faults disk.new) result }
     ensures number { IfOk result (λ number. IfSome (D.reads_as disk.old)
         (λ bytes. IsNumberAt bytes place number)) }

@@ -1,9 +1,9 @@
 // The record behind a gate: a write that lasts, and the body that is read.
 ghost use Rattle.std.specs.Prelude.{◌≡◌, ◌≤◌, ◌<◌, ◌+◌, ◌^◌, List, ℕ, length, IfOk, IfSome};
-ghost use Rattle.std.specs.Prelude.{IsErrOf, OnOk};
+ghost use Rattle.std.specs.Prelude.{IsErrOf, OnErr, OnOk};
 ghost use Rattle.rad_base.specs.Faults.{Rose};
 ghost use Rattle.rad_outside.specs.Causes.{HasCause};
-ghost use Rattle.rad_outside.specs.Disks.{Changes};
+ghost use Rattle.rad_outside.specs.Disks.{Changes, Follows, Torn};
 ghost use Rattle.ref_journal.specs.Gates.{HasBody};
 ghost use Rattle.ref_journal.specs.Holds.{OnlyReads};
 ghost use Rattle.ref_journal.specs.Moments.{LeavesTorn, WritesDurably};
@@ -19,6 +19,10 @@ pub(crate) fn write_durably<D: Disk>(disk: &mut D, place: u64, bytes: &[u8]) -> 
     ensures stays { D.loan disk.new ≡ D.loan disk.old }
     ensures written { OnOk result (Changes (WritesDurably place bytes.now (D.images disk.new))
         (D.reads_as disk.old) (D.reads_as disk.new)) }
+    ensures broken { OnErr result (Changes (Torn place (length bytes.now))
+        (D.reads_as disk.old) (D.reads_as disk.new)) }
+    ensures images { Follows (Torn place (length bytes.now))
+        (D.images disk.old) (D.images disk.new) }
     ensures time { LeavesTorn place (length bytes.now) (D.moment disk.old) (D.moment disk.new)
         (D.images_since disk.old) (D.images_since disk.new) (D.images disk.old) }
 {
@@ -35,7 +39,8 @@ pub(crate) fn read_body<D: Disk>(
     into: &mut Vec<u8>,
 ) -> Result<u64, ScanFault>
     requires { place + 9 + most < 2 ^ 64 }
-    ensures reads { OnlyReads D.loan D.faults D.reads_as D.images disk.old disk.new }
+    ensures reads { OnlyReads D.loan D.faults D.reads_as D.images D.moment D.images_since
+        disk.old disk.new }
     ensures cause { IsErrOf result ScanFault.DiskFault
         → Rose (D.faults disk.old) (D.faults disk.new) }
     ensures size { IfOk result (λ size. size ≤ most) }

@@ -25,7 +25,8 @@ pub(crate) enum Shown {
 
 // Syncs a disk, and finds where its journal ends.
 pub(crate) fn find_end<D: Disk>(disk: &mut D) -> Result<Shown, Failed>
-    ensures reads { OnlyReads D.loan D.faults D.reads_as D.images disk.old disk.new }
+    ensures reads { OnlyReads D.loan D.faults D.reads_as D.images D.moment D.images_since
+        disk.old disk.new }
     ensures cause { HasCause (D.faults disk.old) (D.faults disk.new) result }
     ensures shown { IfOk result (λ shown. IfSome (D.reads_as disk.old)
         (λ bytes. IsShown bytes shown)) }
@@ -39,7 +40,8 @@ pub(crate) fn find_end<D: Disk>(disk: &mut D) -> Result<Shown, Failed>
 
 // Walks over the journal on a disk of this size.
 fn end_of<D: Disk>(disk: &mut D, size: u64) -> Result<Shown, Failed>
-    ensures reads { OnlyReads D.loan D.faults D.reads_as D.images disk.old disk.new }
+    ensures reads { OnlyReads D.loan D.faults D.reads_as D.images D.moment D.images_since
+        disk.old disk.new }
     ensures cause { HasCause (D.faults disk.old) (D.faults disk.new) result }
     ensures shown { IfOk result (λ shown. IfSome (D.reads_as disk.old)
         (λ bytes. size ≡ length bytes → IsShown bytes shown)) }
@@ -69,7 +71,8 @@ fn is_header(head: &[u8]) -> bool
 // Walks over the gates behind the header to the first that is not open, or whose record is broken.
 fn last_gate<D: Disk>(disk: &mut D, size: u64) -> Result<Shown, Failed>
     requires { 9 ≤ size }
-    ensures reads { OnlyReads D.loan D.faults D.reads_as D.images disk.old disk.new }
+    ensures reads { OnlyReads D.loan D.faults D.reads_as D.images D.moment D.images_since
+        disk.old disk.new }
     ensures cause { HasCause (D.faults disk.old) (D.faults disk.new) result }
     ensures shown { IfOk result (λ shown. IfSome (D.reads_as disk.old)
         (λ bytes. size ≡ length bytes → take 8 bytes ≡ header → IsShown bytes shown)) }

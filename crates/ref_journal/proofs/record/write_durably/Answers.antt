@@ -1,4 +1,4 @@
-use Rattle.ref_journal.proofs.Appending.{written_durably}
+use Rattle.ref_journal.proofs.Lasting.{written_durably}
 use Rattle.ref_journal.proofs.record.write_durably.Goals as goal
 
 pub returns-clause-written : goal.returns-clause-written
