@@ -107,19 +107,22 @@ fn a_disk_asks_its_files(rt: HostRuntime) -> Result<(), Fail> {
     Ok(())
 }
 
-// Does each step, and the one that fails once more. A sync that failed fails again, and so does each
-// sync behind it.
-fn steps_where_one_fails(rt: &impl Abort, alloc: Global, number: u64) -> Result<(), Fail> {
-    let fake = made(alloc, Fails::Breaks(number))?;
+// Does each step, and the one that fails once more. A sync that failed fails again, and so does
+// each sync behind it. What is interrupted does not fail.
+fn do_steps(rt: &impl Abort, alloc: Global, fails: Fails) -> Result<(), Fail> {
+    let broken = match fails {
+        Fails::Breaks(number) => number,
+        _ => u64::MAX,
+    };
+    let fake = made(alloc, fails)?;
     let mut disk = FileDisk::new(FakeFiles(&fake), FILE.to_string(alloc)?);
     let mut into = [9; 8];
     let mut is_lost = false;
     for (next, answer, _) in STEPS {
         let before = fake.calls();
         let mut given = do_step(&mut disk, next, &mut into);
-        let fails = before <= number && number < fake.calls();
-        if fails {
-            assert_eq!(rt; given, Err(Failed), "{next:?} at {number}");
+        if before <= broken && broken < fake.calls() {
+            assert_eq!(rt; given, Err(Failed), "{next:?} by {fails:?}");
             is_lost |= next == Step::Sync;
             given = do_step(&mut disk, next, &mut into);
         }
@@ -128,36 +131,17 @@ fn steps_where_one_fails(rt: &impl Abort, alloc: Global, number: u64) -> Result<
         } else {
             Ok(answer)
         };
-        assert_eq!(rt; given, want, "{next:?} at {number}");
+        assert_eq!(rt; given, want, "{next:?} by {fails:?}");
     }
-    assert_eq!(rt; fake.bytes(alloc)?.as_slice(), WRITTEN, "at {number}");
+    assert_eq!(rt; fake.bytes(alloc)?.as_slice(), WRITTEN, "by {fails:?}");
     Ok(())
 }
 
 #[test]
 fn each_call_to_the_files_fails_in_turn(rt: HostRuntime) -> Result<(), Fail> {
     for number in 0..40 {
-        steps_where_one_fails(&rt, rt.alloc(), number)?;
-    }
-    Ok(())
-}
-
-#[test]
-fn each_call_to_the_files_is_interrupted_in_turn(rt: HostRuntime) -> Result<(), Fail> {
-    let alloc = rt.alloc();
-    for number in 0..24 {
-        let fake = made(alloc, Fails::Interrupted(number))?;
-        let mut disk = FileDisk::new(FakeFiles(&fake), FILE.to_string(alloc)?);
-        let mut into = [9; 8];
-        for (next, answer, _) in STEPS {
-            assert_eq!(rt;
-                do_step(&mut disk, next, &mut into),
-                Ok(answer),
-                "{next:?} at {number}"
-            );
-        }
-        assert_eq!(rt; into, *b"\0cdefg\x09\x09", "at {number}");
-        assert_eq!(rt; fake.bytes(alloc)?.as_slice(), WRITTEN, "at {number}");
+        do_steps(&rt, rt.alloc(), Fails::Breaks(number))?;
+        do_steps(&rt, rt.alloc(), Fails::Interrupted(number))?;
     }
     Ok(())
 }
