@@ -5,9 +5,11 @@
 // function here, may not stand in one module.
 pub mod answer;
 mod heads;
+mod laws;
 mod least;
 mod table;
 #[cfg(test)]
 mod tests;
 
 pub use heads::head;
+pub use laws::one_head;

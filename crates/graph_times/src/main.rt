@@ -1,4 +1,5 @@
-// Times of the walks over a chain of commits in memory, for bench/times.
+// Walks over a chain of commits in memory, which bench/times times: what each answers, or ten runs
+// of one.
 #![tactic(auto)]
 
 mod chain;
@@ -6,22 +7,31 @@ mod walks;
 
 use chain::{Chain, chain_of};
 use std::env;
-use std::string::String;
-use std::time::Instant;
-use walks::{WALKS, Walk, answer};
+use walks::{WALKS, answer};
 
-// The nanoseconds of the fastest of ten runs of a walk.
-fn fastest(rt: &HostRuntime, chain: &Chain, walk: Walk) -> Option<u128> {
-    let mut best = u128::MAX;
-    for _ in 0..10 {
-        let start = Instant::now(rt).ok()?;
-        let _ = answer(rt.alloc(), chain, walk)?;
-        best = best.min(start.elapsed(rt).ok()?.as_nanos());
+// Prints what each walk answers.
+fn answers(rt: &HostRuntime, chain: &Chain) -> Option<()> {
+    for (name, walk) in WALKS {
+        let answer = answer(rt.alloc(), chain, walk)?;
+        println!(rt; "{name} {answer}").ok()?;
     }
-    Some(best)
+    Some(())
 }
 
-// How many commits there are, and whether walks are timed: `graph_times 2000 times`.
+// Runs a walk ten times, if there is one of this name.
+fn repeat(rt: &HostRuntime, chain: &Chain, wanted: &str) -> Option<()> {
+    for (name, walk) in WALKS {
+        if name == wanted {
+            for _ in 0..10 {
+                let _ = answer(rt.alloc(), chain, walk)?;
+            }
+        }
+    }
+    Some(())
+}
+
+// Over a chain of so many commits: `graph_times 2000` prints what each walk answers, and
+// `graph_times 2000 closure` runs that walk ten times; another word runs none.
 fn run(rt: &HostRuntime) -> Option<()> {
     let mut words = Vec::new(rt.alloc());
     for word in env::args(rt).ok()?.skip(1) {
@@ -34,22 +44,10 @@ fn run(rt: &HostRuntime) -> Option<()> {
     let chain = chain_of(rt.alloc(), length)?;
     let objects = chain.objects.len();
     println!(rt; "objects {objects}").ok()?;
-    match words.get(1).map(String::as_str) {
-        Some("none") => {}
-        Some("times") => {
-            for (name, walk) in WALKS {
-                let time = fastest(rt, &chain, walk)?;
-                println!(rt; "{name} {time}").ok()?;
-            }
-        }
-        _ => {
-            for (name, walk) in WALKS {
-                let place = answer(rt.alloc(), &chain, walk)?;
-                println!(rt; "{name} {place}").ok()?;
-            }
-        }
+    match words.get(1) {
+        Some(wanted) => repeat(rt, &chain, wanted.as_str()),
+        None => answers(rt, &chain),
     }
-    Some(())
 }
 
 fn main(rt: HostRuntime) {

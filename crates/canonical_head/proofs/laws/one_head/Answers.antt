@@ -1,0 +1,5 @@
+use Rattle.canonical_head.proofs.OneHead.{one_head}
+use Rattle.canonical_head.proofs.laws.one_head.Goals as goal
+
+pub returns : goal.returns
+returns c = one_head
