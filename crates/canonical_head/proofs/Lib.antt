@@ -4,3 +4,4 @@ pub mod Counts
 pub mod LeastNames
 pub mod OneHead
 pub mod Rows
+pub mod SomeHead
