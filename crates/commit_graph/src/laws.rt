@@ -1,7 +1,8 @@
 // What holds of closures, histories and chains by the definitions alone.
-ghost use Rattle.std.specs.Prelude.{◌≡◌, ◌↔◌, ◌∷◌, [], List, Contains};
+ghost use Rattle.std.specs.Prelude.{◌≡◌, ◌↔◌, ◌∷◌, ◌++◌, [], List, Contains};
 ghost use Rattle.rad_base.specs.declared.names.Oid.{Oid};
-ghost use Rattle.commit_graph.specs.Objects.{ObjectMap, Grows};
+ghost use Rattle.commit_graph.specs.Objects.{Object, ObjectMap, Grows};
+ghost use Rattle.commit_graph.specs.InMemory.{objects_in};
 ghost use Rattle.commit_graph.specs.Closures.{IsClosed, IsClosedCommit, IsClosure, IsReached};
 ghost use Rattle.commit_graph.specs.Histories.{InHistory};
 ghost use Rattle.commit_graph.specs.Chains.{HasParents, IsChain};
@@ -42,4 +43,12 @@ pub fn one_answer()
         → IsClosure objects roots a → IsClosure objects roots b → a ≡ b }
     ensures chain { (objects : ObjectMap) (tip : Oid) (a b : List Oid) → IsChain objects a tip
         → IsChain objects b tip → a ≡ b }
+{}
+
+/// Objects behind others are added to those, and behind others that are found alike all are found
+/// alike.
+pub fn objects_behind_are_added()
+    ensures grows { (old batch : List Object) → Grows (objects_in old) (objects_in (old ++ batch)) }
+    ensures alike { (a b batch : List Object) → objects_in a ≡ objects_in b
+        → objects_in (a ++ batch) ≡ objects_in (b ++ batch) }
 {}

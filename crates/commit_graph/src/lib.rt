@@ -30,7 +30,8 @@ pub use failing::{FailingObjects, Failure};
 pub use fault::{Changed, GetFault};
 pub use history::{History, history_of, in_history};
 pub use laws::{
-    added_objects_are_not_reached, added_objects_change_no_answer, closed_where_each_is, one_answer,
+    added_objects_are_not_reached, added_objects_change_no_answer, closed_where_each_is,
+    objects_behind_are_added, one_answer,
 };
 pub use memory::MemObjects;
 pub use objects::Objects;
