@@ -91,3 +91,13 @@ fits_set (x ∷ bytes) (suc i) b h l (suc k) = fits_set bytes i b (λ j. h (suc 
 pub none_spelled : [] ≡ encode_lower []
 unfolding encode_with
 none_spelled = refl
+
+-- the value of each byte: 16 up to 0 to 9, between these and a to f, and behind them
+abbrev pub values : List ℕ
+values =
+    replicate 48 16 ++ (0 ∷ 1 ∷ 2 ∷ 3 ∷ 4 ∷ 5 ∷ 6 ∷ 7 ∷ 8 ∷ 9 ∷ [])
+    ++ replicate 39 16 ++ (10 ∷ 11 ∷ 12 ∷ 13 ∷ 14 ∷ 15 ∷ []) ++ replicate 153 16
+
+pub value_read : (c : ℕ) → c < 256 → slice_index values c ≡ digit_value c
+value_read c fits =
+    eqb-true _ _ (agree_below_at (λ k. slice_index values k == digit_value k) (λ _. true) 256 c refl fits)
