@@ -1,8 +1,9 @@
 // Objects that are put together.
 ghost use Rattle.std.specs.Prelude.{◌≡◌, ◌∷◌, ◌++◌, [], length, IfOk, OnOk, OnErr};
+ghost use Rattle.repo_entries.specs.Items.{names_of};
 
-use git_object::Kind;
-use rad_base::{Bytes, NoMemory};
+use git_object::{Kind, name_of};
+use rad_base::{Bytes, NoMemory, Oids};
 use std::alloc::Global;
 use std::marker::Model;
 
@@ -64,6 +65,17 @@ impl Batch {
             items.push((*kind, content))?;
         }
         Ok(Batch { items })
+    }
+
+    /// The names of the objects, in order. `NoMemory`: memory for them was refused.
+    pub fn names(&self, alloc: Global) -> Result<Oids, NoMemory>
+        ensures { IfOk result (λ names. names ≡ names_of self.now) }
+    {
+        let mut names = Oids::new(alloc);
+        for (kind, content) in &self.items {
+            names.push(name_of(*kind, content.as_slice()))?;
+        }
+        Ok(names)
     }
 
     /// Lets all objects go.

@@ -3,10 +3,12 @@
 
 mod batch;
 mod entry;
+mod history;
 #[cfg(test)]
 mod tests;
 mod whole;
 
 pub use batch::Batch;
 pub use entry::{Entry, Left};
+pub use history::History;
 pub use whole::Whole;
