@@ -11,4 +11,5 @@ pub mod OneVerdict
 pub mod RefsOf
 pub mod Replacing
 pub mod Staging
+pub mod Stopping
 pub mod Turns

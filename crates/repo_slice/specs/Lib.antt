@@ -1,5 +1,7 @@
 pub mod Good
 pub mod Heads
+pub mod Keeps
+pub mod MemKeeps
 pub mod Outcomes
 pub mod Parts
 pub mod Slices

@@ -4,8 +4,11 @@
 mod heads;
 mod identity;
 mod judging;
+mod keep;
+mod keep_fault;
 mod known;
 mod laws;
+mod mem_keep;
 mod merging;
 mod outcomes;
 mod remote;
@@ -20,13 +23,16 @@ mod tips;
 mod verdict;
 mod wanting;
 
+pub use keep::Keep;
+pub use keep_fault::KeepFault;
 pub use laws::{
     judged_is_allowed, next_is_good, one_list_of_outcomes, one_list_of_remotes, one_verdict,
     put_keeps_good,
 };
+pub use mem_keep::{Made, MemKeep};
 pub use merging::merged;
 pub use outcomes::{Outcome, Outcomes};
-pub use repo_entries::{Batch, Entry, Left, Whole};
+pub use repo_entries::{Batch, Entry, History, Left, Whole};
 pub use scope::Scope;
 pub use slice::{Next, Slice, judge, wants};
 pub use state::State;
