@@ -1,12 +1,12 @@
 // One pass alone, two passes that meet, and a pass that was split off.
-ghost use Rattle.std.specs.Prelude.{◌≡◌, ◌<◌, ◌≤◌, ◌^◌, Contains, OnOk};
+ghost use Rattle.std.specs.Prelude.{◌≡◌, ◌<◌, ◌≤◌, ◌^◌, Contains, IfOk, OnOk};
 ghost use mathlib.Core.List.{IsPrefix};
 ghost use Rattle.turn_lock.specs.Views.{weight};
 ghost use Rattle.turn_lock.specs.Passes.{IsPassOf, IsIdle, knows};
 
 use super::counter::{Counter, Increment};
 use crate::{Pass, Turns};
-use std::alloc::AllocError;
+use std::alloc::{AllocError, Global};
 use std::sync::Wait;
 use std::test::Fail;
 
@@ -61,23 +61,22 @@ fn add_and_meet<R: Wait>(
     second
 }
 
-/// A pass that is split off takes a turn in which the list begins with what the other has seen.
-fn take_as_part<R: Wait>(
+/// The list in a turn of the pass, which begins with all that the pass has seen.
+fn list_in_turn<R: Wait>(
     rt: &R,
+    alloc: Global,
     turns: &Turns<Counter>,
     pass: &mut Pass<Counter>,
-    by: u64,
-) -> Result<(), AllocError>
-    requires pass { IsPassOf turns.now pass.old × IsIdle pass.old × (4 ≤ (knows pass.old).share) }
+) -> Result<Vec<Increment>, AllocError>
+    requires pass { IsPassOf turns.now pass.old × IsIdle pass.old }
     ensures pass { IsPassOf turns.now pass.new × IsIdle pass.new
         × (weight (knows pass.new) ≡ weight (knows pass.old)) }
-    ensures seen { IsPrefix (knows pass.old).seen (knows pass.new).seen }
+    ensures list { IfOk result (λ list. IsPrefix (knows pass.old).seen list.items) }
 {
-    let mut part = turns.split(pass, 2);
-    let caller = turns.sign_on(&mut part);
-    let added = add_one(rt, turns, &mut part, Increment { caller, by });
-    turns.join(pass, part);
-    added
+    let mut held = turns.turn(rt, pass);
+    let list = held.value().made.as_slice().to_vec(alloc);
+    turns.give_back(pass, held);
+    list
 }
 
 #[test]
@@ -126,13 +125,15 @@ fn a_part_begins_with_what_was_seen(rt: HostRuntime) -> Result<(), Fail> {
     let caller = turns.sign_on(&mut pass);
     add_one(&rt, &turns, &mut pass, Increment { caller, by: 1 })?;
     add_one(&rt, &turns, &mut pass, Increment { caller, by: 2 })?;
-    take_as_part(&rt, &turns, &mut pass, 3)?;
+    let mut part = turns.split(&mut pass, 2);
+    let list = list_in_turn(&rt, rt.alloc(), &turns, &mut part)?;
+    turns.join(&mut pass, part);
     let counter = turns.close(pass);
     let want = [
         Increment { caller: 1, by: 1 },
         Increment { caller: 1, by: 2 },
-        Increment { caller: 2, by: 3 },
     ];
+    assert_eq!(rt; list.as_slice(), want.as_slice());
     assert_eq!(rt; counter.made.as_slice(), want.as_slice());
     Ok(())
 }
