@@ -5,8 +5,8 @@ use atomic_table::TableRule;
 use std::marker::PhantomData;
 use std::snapshot::Snapshot;
 
-// The words of the table: the next ticket, the ticket that is served, the count of entries that were
-// added, and the next number.
+// The words of the table: the next ticket, the ticket that is served, the count of entries that
+// were added, and the next number.
 pub(crate) const TICKET: usize = 0;
 
 pub(crate) const SERVING: usize = 1;

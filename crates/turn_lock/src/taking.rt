@@ -1,7 +1,8 @@
 // Turns: the value is taken, and goes back.
 ghost use Rattle.std.specs.Prelude.{◌≡◌, length, IfSome, IfNone, Some};
 ghost use Rattle.turn_lock.specs.Views.{weight};
-ghost use Rattle.turn_lock.specs.Passes.{IsPassOf, IsIdle, HasTurn, HasTicket, Drew, IsSamePass, TakesTurn, GivesBack, GrownBy, FitsPass, knows};
+ghost use Rattle.turn_lock.specs.Passes.{IsPassOf, IsIdle, IsSamePass, HasTurn, HasTicket, knows};
+ghost use Rattle.turn_lock.specs.Passes.{Drew, TakesTurn, FitsPass, GrownBy, GivesBack};
 
 use crate::held::Held;
 use crate::pass::Pass;
