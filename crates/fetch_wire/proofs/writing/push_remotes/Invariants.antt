@@ -1,0 +1,8 @@
+use Rattle.std.proofs.Common.{◌≡◌, ◌++◌, take}
+use Rattle.std.specs.List.{flat_map}
+use Rattle.fetch_wire.specs.Sections.{pair_text}
+use Rattle.fetch_wire.proofs.writing.push_remotes.Given as goal
+
+abbrev pub invariant-remotes : goal.invariant-remotes
+invariant-remotes l =
+    l.bytes.items ≡ l.initial.bytes.items ++ flat_map pair_text (take l.remote-index l.remotes)

@@ -1,0 +1,5 @@
+pub mod Bundles
+pub mod Judging
+pub mod SectionReaders
+pub mod SectionReadings
+pub mod Sections

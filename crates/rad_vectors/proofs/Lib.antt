@@ -1,0 +1,5 @@
+pub mod CommitSizes
+pub mod Generating
+pub mod KeyringLines
+pub mod MoreObjects
+pub mod SignedObjects

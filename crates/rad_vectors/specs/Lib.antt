@@ -1,0 +1,6 @@
+pub mod Chains
+pub mod Generated
+pub mod Objects
+pub mod Repositories
+pub mod Shown
+pub mod Signers

@@ -1,0 +1,21 @@
+//! Repositories that are made by rule, as bundles with their keyrings: for tests, benchmarks and
+//! tries.
+#![tactic(auto)]
+
+mod bundle;
+mod chain;
+mod commit;
+mod delegate;
+mod generator;
+mod identity;
+mod keyring_lines;
+mod made;
+mod object;
+mod order;
+mod pushing;
+mod signing;
+#[cfg(test)]
+mod tests;
+
+pub use generator::bundle_of;
+pub use made::Made;
