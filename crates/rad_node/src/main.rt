@@ -140,8 +140,8 @@ fn open_nothing(rt: &HostRuntime) -> Result<File, Status> {
     }
 }
 
-// Runs with the descriptors 0, 1 and 2 taken to its end. Where one of them is closed, no file of the
-// run then stands in its place, and what is printed there goes into none.
+// Runs with the descriptors 0, 1 and 2 taken to its end. Where one of them is closed, no file of
+// the run then stands in its place, and what is printed there goes into none.
 fn run_apart(rt: &HostRuntime) -> Result<Status, Status> {
     let _input = open_nothing(rt)?;
     let _output = open_nothing(rt)?;

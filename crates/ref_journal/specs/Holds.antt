@@ -32,7 +32,8 @@ Holds reads images journal bodies doubt =
     Stores (reads journal.disk) (images journal.disk) journal.end journal.in_doubt bodies doubt
 
 -- What an append that was refused leaves of a journal of these bodies with that doubt. After a disk
--- fault the body is in doubt, or a mend that came first ended the doubt, or the doubt is what it was.
+-- fault the body is in doubt, or a mend that came first ended the doubt, or the doubt is what it
+-- was.
 abbrev pub LeavesDoubt : {D : Type 0} → (D → Option (List ℕ)) → (D → List ℕ → Type 0)
     → List (List ℕ) → Option (List ℕ) → List ℕ → Journal D → AppendFault → Type 0
 LeavesDoubt reads images bodies doubt body new Full = Holds reads images new bodies doubt
