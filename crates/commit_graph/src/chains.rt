@@ -95,8 +95,8 @@ pub fn chain<O: Objects>(alloc: Global, objects: &mut O, tip: &Oid) -> Result<Ch
     ensures told { ForSome (O.content objects.old)
         (λ m. IfOk result (λ chain. IsChain m chain tip.now)) }
     ensures refused { ForSome (O.content objects.old) (λ m. IfErr result (IsChainFault m tip.now)) }
-    ensures keeps { KeepsObjects O.content O.beside O.places O.faults fault_in objects.old objects.new
-        result }
+    ensures keeps { KeepsObjects O.content O.beside O.places O.faults fault_in objects.old
+        objects.new result }
     ensures looked { ForSome (O.content objects.old) (λ m. (commits : List Oid)
         → CoversHistory m tip.now commits
         → O.looks objects.new ≤ O.looks objects.old + length commits) }

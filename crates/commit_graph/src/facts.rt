@@ -51,8 +51,8 @@ impl Facts {
     ) -> Result<Fact, GetFault>
         ensures told { ForSome (O.content objects.old) (λ m. IfOk result
             (λ fact. IsLearned m oid self.old self.new fact steps.old steps.new)) }
-        ensures keeps { KeepsObjects O.content O.beside O.places O.faults Some objects.old objects.new
-            result }
+        ensures keeps { KeepsObjects O.content O.beside O.places O.faults Some objects.old
+            objects.new result }
         ensures looked { O.looks objects.new + steps.old ≤ O.looks objects.old + steps.new }
         ensures cost { steps.new ≤ steps.old + 1 }
         ensures counted { steps.old ≤ steps.new }

@@ -122,8 +122,8 @@ impl MemObjects {
         }
     }
 
-    /// Adds an object under its name, which is the answer, and admits what is staged. A name that is
-    /// held keeps its object. `NoMemory` leaves all as it was.
+    /// Adds an object under its name, which is the answer, and admits what is staged. A name that
+    /// is held keeps its object. `NoMemory` leaves all as it was.
     pub fn put(&mut self, alloc: Global, kind: Kind, bytes: &[u8]) -> Result<Oid, NoMemory>
         ensures name { IfOk result (λ oid. oid ≡ name kind bytes.now) }
         ensures there { OnOk result (objects_in self.new.objects
