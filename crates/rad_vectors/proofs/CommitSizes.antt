@@ -18,7 +18,7 @@ begins_so word = (codes "a <a@b> 0 +0000\ncommitter a <a@b> 0 +0000\n\n" ++ word
 digits : (oid : Oid) → IsOid oid → length (encode_lower oid.0) ≡ 40
 digits oid is = length-encode_with _ oid.0 ∙ ap (λ (n : ℕ). 2 * n) is.size
 
-line_size : (word : List ℕ) (oid : Oid) → IsOid oid → length (oid_line word oid) ≡ length word + 41
+pub line_size : (word : List ℕ) (oid : Oid) → IsOid oid → length (oid_line word oid) ≡ length word + 41
 line_size word oid is =
     let size = digits oid is in
     omega (arith, length-append (word ++ encode_lower oid.0) (10 ∷ []), length-append word (encode_lower oid.0))

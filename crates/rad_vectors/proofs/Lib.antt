@@ -1,4 +1,5 @@
 pub mod CommitSizes
+pub mod FixtureParts
 pub mod Generating
 pub mod KeyringLines
 pub mod MoreObjects

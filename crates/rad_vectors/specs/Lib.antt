@@ -1,4 +1,5 @@
 pub mod Chains
+pub mod Fixture
 pub mod Generated
 pub mod Objects
 pub mod Repositories

@@ -1,13 +1,13 @@
 // Writing a keyring file.
 ghost use Rattle.std.specs.Prelude.{◌≡◌, ◌++◌, ◌∷◌, [], IfOk, OnOk, map};
 ghost use Rattle.hex.specs.Hex.{encode_lower};
-ghost use Rattle.keyring.specs.Lines.{file_text, keyring_line_text};
+ghost use Rattle.keyring.specs.Lines.{file_text, keyring_line_text, named};
 ghost use Rattle.rad_vectors.specs.Repositories.{accept_of};
 ghost use Rattle.rad_vectors.specs.Signers.{signer_of};
 
 use crate::delegate::Delegate;
 use crate::signing::signature;
-use rad_base::NoMemory;
+use rad_base::{Nid, NoMemory};
 use sha2::{Digest as _, Sha256};
 use std::alloc::Global;
 
@@ -17,6 +17,24 @@ pub(crate) fn push_digits(bytes: &mut Vec<u8>, alloc: Global, raw: &[u8]) -> Res
 {
     let digits = hex::encode(alloc, raw)?;
     bytes.extend_from_slice(digits.as_bytes())?;
+    Ok(())
+}
+
+/// Writes the line that names a key behind what is there.
+pub(crate) fn push_name(
+    bytes: &mut Vec<u8>,
+    alloc: Global,
+    text: &[u8],
+    key: &Nid,
+) -> Result<(), NoMemory>
+    ensures { OnOk result (bytes.new.items ≡ bytes.old.items
+        ++ (keyring_line_text (named text.now key.now) ++ 10 ∷ [])) }
+{
+    bytes.extend_from_slice(b"name ")?;
+    bytes.extend_from_slice(text)?;
+    bytes.extend_from_slice(b" ")?;
+    push_digits(bytes, alloc, &key.0)?;
+    bytes.push(b'\n')?;
     Ok(())
 }
 

@@ -16,6 +16,8 @@ mod pushing;
 mod signing;
 #[cfg(test)]
 mod tests;
+mod three_delegates;
 
 pub use generator::bundle_of;
 pub use made::Made;
+pub use three_delegates::fixture;
