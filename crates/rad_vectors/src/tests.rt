@@ -1,5 +1,8 @@
 // What is made, against what an independent program made of the same rules.
-use crate::{Made, bundle_of};
+use crate::{Made, bundle_of, fixture};
+use fetch_wire::{Part, SectionReader, Which};
+use git_object::name_of;
+use rad_base::Oid;
 use std::alloc::Global;
 use std::test::Fail;
 
@@ -53,5 +56,60 @@ fn the_bundle_of_one_commit(rt: HostRuntime) -> Result<(), Fail> {
     let Made { keyring, bundle } = bundle_of(alloc, 1)?;
     assert_eq!(rt; bundle.into_vec(), bytes_of(alloc, ONE_COMMIT)?);
     assert_eq!(rt; keyring.into_vec(), ONE_KEYRING.to_vec(alloc)?);
+    Ok(())
+}
+
+// Adds the names of the objects of the section that begins these bytes, and answers its length.
+fn push_names(
+    alloc: Global,
+    which: Which,
+    bytes: &[u8],
+    names: &mut Vec<Oid>,
+) -> Result<usize, Fail> {
+    let mut reader = SectionReader::new(alloc, which);
+    let Ok(fed) = reader.feed(alloc, bytes) else {
+        return Ok(0);
+    };
+    for index in 0..fed.parts.len() {
+        if let Some(Part::Object(kind, content)) = fed.parts.get(index) {
+            names.push(name_of(*kind, content.as_slice()))?;
+        }
+    }
+    Ok(fed.used)
+}
+
+// How many of these names differ.
+fn different(names: &[Oid]) -> usize {
+    let mut count: usize = 0;
+    let mut before = None;
+    for name in names {
+        if before != Some(*name) {
+            count = count.saturating_add(1);
+        }
+        before = Some(*name);
+    }
+    count
+}
+
+#[test]
+fn the_objects_of_the_fixture(rt: HostRuntime) -> Result<(), Fail> {
+    let alloc = rt.alloc();
+    let bundle = fixture(alloc)?.bundle.into_vec();
+    let mut names = Vec::new(alloc);
+    let mut from: usize = 20;
+    let table = [(Which::Identity, 4), (Which::Sigs, 16), (Which::Tips, 621)];
+    for (which, so_far) in table {
+        let rest = if from <= bundle.len() {
+            &bundle[from..]
+        } else {
+            &[]
+        };
+        let used = push_names(alloc, which, rest, &mut names)?;
+        assert_eq!(rt; names.len(), so_far);
+        from = from.saturating_add(used);
+    }
+    assert_eq!(rt; from, bundle.len());
+    names.sort()?;
+    assert_eq!(rt; different(&names), 617);
     Ok(())
 }
