@@ -8,7 +8,7 @@ use Rattle.hex.proofs.HexLemmas.{length-encode_with}
 use Rattle.rad_base.specs.Lists.{BeginsWith}
 use Rattle.rad_base.specs.Sizes.{IsOid}
 use Rattle.rad_base.specs.declared.names.Oid.{Oid}
-use Rattle.git_object.specs.Grammar.{Commit, SpellsCommit, commit_text, oid_line, parents_text}
+use Rattle.git_object.specs.Grammar.{SpellsCommit, oid_line, parents_text}
 use Rattle.rad_vectors.specs.Objects.{people}
 
 -- the lines of the people begin with the author

@@ -1,12 +1,11 @@
 -- Branches, tags and names of the repository of three delegates.
-use Rattle.std.proofs.Common.{◌≡◌, ℕ, zero, suc, ◌+◌, ◌*◌, ◌<◌, ◌≤◌, List, [], ◌∷◌, ◌++◌, length, refl, sym, subst, ap, ◌∙◌, append_assoc, append-nil, arith, length-append, get_or, map, take}
+use Rattle.std.proofs.Common.{◌≡◌, ℕ, zero, suc, ◌+◌, ◌<◌, ◌≤◌, List, [], ◌∷◌, ◌++◌, length, refl, sym, subst, ap, ◌∙◌, append_assoc, append-nil, arith, length-append, get_or, map, take}
 use Rattle.std.proofs.lemmas.List.{length-take, take_more}
 use Rattle.std.specs.Prelude.{None, Some, codes}
-use Rattle.git_object.specs.Grammar.{SpellsTag, oid_line, tag_text}
+use Rattle.git_object.specs.Grammar.{SpellsTag, oid_line}
 use Rattle.git_object.specs.declared.kind.Kind.TheVariants as kinds
 use Rattle.rad_base.specs.declared.names.Nid.{Nid}
 use Rattle.rad_base.specs.declared.names.Oid.{Oid}
-use Rattle.rad_base.specs.Sizes.{IsOid}
 use Rattle.keyring.specs.Lines.{KeyringLine, file_text, keyring_line_text, named}
 use Rattle.fetch_wire.specs.Sections.{Object}
 use Rattle.rad_vectors.specs.Chains.{chain_commits, number_commit, tip_of}

@@ -1,12 +1,10 @@
 -- What is made of the repository's parts.
-use Rattle.std.proofs.Common.{◌≡◌, ◌++◌, ◌∷◌, [], ℕ, List, subst, ap, ◌∙◌}
-use Rattle.rad_base.specs.declared.names.Oid.{Oid}
+use Rattle.std.proofs.Common.{◌≡◌, ◌∷◌, [], ℕ, List, subst, ap, ◌∙◌}
 use Rattle.keyring.specs.Lines.{file_text}
 use Rattle.fetch_wire.specs.Sections.{Object}
 use Rattle.rad_vectors.specs.Chains.{chain_objects, tip_of}
 use Rattle.rad_vectors.specs.Generated.{IsMade, generated, generated_signer, generated_with, master_line}
 use Rattle.rad_vectors.specs.Repositories.{IsBundleOf, accept_of}
-use Rattle.rad_vectors.specs.declared.made.Made.{Made}
 
 pub made_of : (n : ℕ) (refs bundle keyring : List ℕ) (tips : List Object) → refs ≡ master_line (tip_of n) → tips ≡ chain_objects n
     → IsBundleOf (generated_with refs tips) bundle → keyring ≡ file_text (accept_of (generated_signer refs) ∷ [])

@@ -3,8 +3,6 @@ use Rattle.std.proofs.Common.{◌≡◌, ℕ, List, [], ◌∷◌, ◌++◌, map
 use Rattle.std.proofs.lemmas.List.{map-append}
 use Rattle.std.proofs.lemmas.Grind.{flat_map-append}
 use Rattle.std.specs.List.{flat_map}
-use Rattle.rad_base.specs.declared.names.Nid.{Nid}
-use Rattle.rad_base.specs.declared.names.Oid.{Oid}
 use Rattle.fetch_wire.specs.Sections.{Object}
 use Rattle.rad_vectors.specs.Objects.{object_name}
 use Rattle.rad_vectors.specs.Repositories.{Signer, remotes_of, signed_commit, signed_objects}

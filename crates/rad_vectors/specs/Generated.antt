@@ -1,6 +1,5 @@
 -- The repository of a number of commits.
-use Rattle.std.specs.Prelude.{◌≡◌, ℕ, List, [], ◌∷◌, ◌++◌, Option, None, Some, codes, replicate}
-use Rattle.rad_base.specs.declared.names.Nid.{Nid}
+use Rattle.std.specs.Prelude.{◌≡◌, ℕ, List, [], ◌∷◌, Option, None, Some, codes, replicate}
 use Rattle.rad_base.specs.declared.names.Oid.{Oid}
 use Rattle.fetch_wire.specs.Sections.{Object}
 use Rattle.rad_vectors.specs.Chains.{chain_objects, tip_of}

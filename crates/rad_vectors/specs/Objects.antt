@@ -1,10 +1,9 @@
 -- The objects that vectors are made of.
 use Rattle.std.specs.Prelude.{ℕ, List, [], ◌∷◌, ◌++◌, codes}
-use Rattle.git_object.specs.Grammar.{Commit, Entry, commit_text, tree_text}
+use Rattle.git_object.specs.Grammar.{Entry, commit_text, tree_text}
 use Rattle.git_object.specs.Names.{name}
 use Rattle.git_object.specs.declared.kind.Kind.TheVariants as kinds
 use Rattle.git_object.specs.declared.mode.Mode.{Mode}
-use Rattle.git_object.specs.declared.mode.Mode.TheVariants.{File}
 use Rattle.rad_base.specs.declared.names.Oid.{Oid}
 use Rattle.fetch_wire.specs.Sections.{Object}
 

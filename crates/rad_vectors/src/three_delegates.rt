@@ -1,5 +1,5 @@
 // The repository of three delegates.
-ghost use Rattle.std.specs.Prelude.{◌≡◌, ◌≤◌, ◌+◌, ◌*◌, ◌++◌, ◌∷◌, [], IfOk, OnOk, Some, length, map, take};
+ghost use Rattle.std.specs.Prelude.{◌≡◌, ◌≤◌, ◌+◌, ◌++◌, IfOk, OnOk, length, map, take};
 ghost use Rattle.rad_vectors.specs.Chains.{chain_commits, tip_of};
 ghost use Rattle.rad_vectors.specs.Fixture.{branch_lines, branch_name, first_lines, fixture_history, fixture_names, fixture_of, fixture_tag, last_commit, next_to_last, tag_on};
 ghost use Rattle.rad_vectors.specs.Generated.{IsMade, master_line};

@@ -1,14 +1,12 @@
-use Rattle.std.proofs.Common.{rules, ◌≡◌, ◌++◌, ◌∷◌, [], ℕ, List, map, sym, subst, ap, ◌∙◌}
+use Rattle.std.proofs.Common.{rules, ◌≡◌, ◌++◌, ◌∷◌, [], ℕ, List, map, subst, ap, ◌∙◌}
 use Rattle.std.specs.List.{flat_map}
 use Rattle.rad_base.specs.declared.names.Nid.{Nid}
 use Rattle.rad_base.specs.declared.names.Oid.{Oid}
-use Rattle.rad_base.specs.declared.offer.Offer.{Offer}
 use Rattle.fetch_wire.specs.Sections.{Object, as_part, offer_text, part_text}
 use Rattle.fetch_wire.specs.declared.part.Part.TheVariants as parts
 use Rattle.rad_vectors.specs.Objects.{blob, object_name}
-use Rattle.rad_vectors.specs.Repositories.{IsInOrder, identity_commit, remotes_of}
+use Rattle.rad_vectors.specs.Repositories.{IsInOrder, identity_commit}
 use Rattle.rad_vectors.specs.Shown.{all_shown}
-use Rattle.rad_vectors.specs.Signers.{signer_of}
 use Rattle.rad_vectors.specs.declared.object.NamedObject.{NamedObject}
 use Rattle.rad_vectors.proofs.SignedObjects.{joined}
 use Rattle.rad_vectors.proofs.bundle.write_bundle.Goals as goal

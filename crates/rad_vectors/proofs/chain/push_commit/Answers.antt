@@ -1,8 +1,5 @@
-use Rattle.std.proofs.Common.{rules, ◌≡◌, ◌++◌, ◌∷◌, [], ℕ, List, ap, ◌∙◌, decimal}
-use Rattle.std.specs.Option.{option_to_list}
-use Rattle.rad_vectors.specs.Chains.{number_blob, number_commit, number_tree, number_tree_of}
-use Rattle.rad_vectors.specs.Objects.{commit}
-use Rattle.rad_vectors.specs.Shown.{shown}
+use Rattle.std.proofs.Common.{rules}
+use Rattle.rad_vectors.specs.Chains.{number_blob, number_commit, number_tree}
 use Rattle.rad_vectors.proofs.MoreObjects.{three_more}
 use Rattle.rad_vectors.proofs.chain.push_commit.Goals as goal
 

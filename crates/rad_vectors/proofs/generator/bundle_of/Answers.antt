@@ -1,5 +1,5 @@
-use Rattle.std.proofs.Common.{rules, ◌≡◌, ℕ, suc, ◌+◌, ◌-◌, ◌++◌, ◌∷◌, [], List, sym, subst, ap, ◌∙◌, arith}
-use Rattle.std.specs.Prelude.{Option, None, Some, codes, replicate}
+use Rattle.std.proofs.Common.{◌≡◌, ℕ, suc, ◌-◌, ◌++◌, ◌∷◌, [], List, sym, ap, ◌∙◌, arith}
+use Rattle.std.specs.Prelude.{Option, None, Some, codes}
 use Rattle.rad_base.specs.declared.names.Oid.{Oid}
 use Rattle.fetch_wire.specs.Sections.{Object}
 use Rattle.rad_vectors.specs.Chains.{chain_objects, number_commit, number_objects, tip_of}

@@ -3,7 +3,7 @@ use Rattle.std.specs.Prelude.{codes}
 use Rattle.git_object.specs.declared.mode.Mode.TheVariants.{Directory, File}
 use Rattle.fetch_wire.specs.Sections.{Object}
 use Rattle.rad_vectors.specs.Objects.{blob, commit}
-use Rattle.rad_vectors.specs.Repositories.{embeds_tree, identity_commit, identity_tree}
+use Rattle.rad_vectors.specs.Repositories.{embeds_tree, identity_commit}
 use Rattle.rad_vectors.specs.Shown.{shown}
 use Rattle.rad_vectors.proofs.MoreObjects.{name_of_shown, tree_named}
 use Rattle.rad_vectors.proofs.identity.identity_of.Goals as goal

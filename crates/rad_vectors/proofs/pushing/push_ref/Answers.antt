@@ -1,4 +1,4 @@
-use Rattle.std.proofs.Common.{◌≡◌, ℕ, ◌*◌, ◌≤◌, length, ap, ◌∙◌, arith}
+use Rattle.std.proofs.Common.{◌≡◌, ℕ, ◌*◌, length, ap, ◌∙◌, arith}
 use Rattle.hex.proofs.HexLemmas.{length-encode_with}
 use Rattle.rad_vectors.proofs.pushing.push_ref.Goals as goal
 

@@ -1,4 +1,4 @@
-use Rattle.std.proofs.Common.{rules, ◌≡◌, ℕ, ◌++◌, List, ap, ◌∙◌}
+use Rattle.std.proofs.Common.{ℕ, ◌++◌, List, ap, ◌∙◌}
 use Rattle.std.specs.Prelude.{codes}
 use Rattle.git_object.specs.Grammar.{entry_text}
 use Rattle.git_object.specs.declared.kind.Kind.TheVariants.{Tree}

@@ -1,4 +1,4 @@
-use Rattle.std.proofs.Common.{◌≡◌, ℕ, List, [], ◌∷◌, ◌++◌, map, ap, ◌∙◌}
+use Rattle.std.proofs.Common.{map}
 use Rattle.rad_vectors.specs.Repositories.{accept_of}
 use Rattle.rad_vectors.specs.Signers.{signer_of}
 use Rattle.keyring.specs.Lines.{file_text}
