@@ -1,10 +1,11 @@
 // The generator's bundle of so many commits, which bench/vectors times: how many objects each
-// section has, or the bundle made once more, or the names of its objects computed once more.
+// section has, or the bundle made once more, or the names of its objects computed once more. Or
+// the bundle of the repository of three delegates, whose names .ci/names compares.
 #![tactic(auto)]
 
 use fetch_wire::{Part, Parts, SectionReader, Which};
 use git_object::name_of;
-use rad_vectors::bundle_of;
+use rad_vectors::{bundle_of, fixture};
 use std::alloc::Global;
 use std::env;
 
@@ -48,14 +49,22 @@ fn read(rt: &HostRuntime, bundle: &[u8], times: u32) -> Option<()> {
     Some(())
 }
 
-// `vector_times 2000` prints the counts; `vector_times 2000 make` makes the bundle once more, and
-// `vector_times 2000 names` computes the names once more.
+// Writes the bundle of the repository of three delegates.
+fn write_fixture(rt: &HostRuntime) -> Option<()> {
+    let made = fixture(rt.alloc()).ok()?;
+    rt.write_all(made.bundle.as_slice()).ok()
+}
+
+// `vector_times 2000` prints the counts; `vector_times 2000 make` makes the bundle once more,
+// `vector_times 2000 names` computes the names once more, and `vector_times fixture` writes a
+// bundle.
 fn run(rt: &HostRuntime) -> Option<()> {
     let mut words = Vec::new(rt.alloc());
     for word in env::args(rt).ok()?.skip(1) {
         words.push(word).ok()?;
     }
     let commits = match words.first() {
+        Some(word) if word.as_str() == "fixture" => return write_fixture(rt),
         Some(word) => word.parse::<u32>().ok()?,
         None => 1,
     };
