@@ -42,8 +42,12 @@ fn remotes_are_found(rt: HostRuntime) -> Result<(), Fail> {
     for count in 0..9u8 {
         let mut remotes = Remotes::new(alloc);
         for k in 0..count {
-            remotes.push(Nid([2 * k + 1; 32]), Oid([k; 20]))?;
+            let node = Nid([2 * k + 1; 32]);
+            if remotes.is_above(&node) {
+                remotes.push(node, Oid([k; 20]))?;
+            }
         }
+        assert_eq!(rt; remotes.as_slice().len(), usize::from(count));
         for key in 0..20u8 {
             let node = Nid([key; 32]);
             let found = (key % 2 == 1 && key / 2 < count).then_some(Oid([key / 2; 20]));
