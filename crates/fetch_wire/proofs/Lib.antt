@@ -2,7 +2,6 @@ pub mod ObjectTexts
 pub mod OfferTexts
 pub mod OffersRead
 pub mod OneBundle
-pub mod Rising
 pub mod SectionsRead
 pub mod SectionsSpelled
 pub mod UnitTexts

@@ -13,7 +13,8 @@ use Rattle.hex.specs.Hex.{IsBytes}
 use Rattle.git_object.specs.declared.kind.Kind.{Kind}
 use Rattle.git_object.specs.declared.kind.Kind.TheVariants as kinds
 use Rattle.rad_base.proofs.EachItem.{each_more}
-use Rattle.rad_base.proofs.NameOrder.{rising_more}
+use Rattle.rad_base.specs.Order.{is_above, nid_cmp, node_of}
+use Rattle.rad_base.proofs.Rising.{above, rises_more}
 use Rattle.rad_base.proofs.OneFront.{IsFront, front_of}
 use Rattle.rad_base.specs.Order.{IsRising}
 use Rattle.rad_base.specs.Sizes.{HasBytes, IsNid, IsOid}
@@ -21,7 +22,7 @@ use Rattle.rad_base.specs.declared.names.Nid.{Nid}
 use Rattle.rad_base.specs.declared.names.Oid.{Oid}
 use Rattle.unit_reader.specs.Spelling.{only_text}
 use Rattle.unit_reader.specs.Units.{Verdict, Begins, Ends, Breaks, only}
-use Rattle.fetch_wire.specs.Judging.{Said, break_at, head_byte, is_above, judge_code, judge_content, judge_count, judge_end, judge_front, judge_head, judge_kind, judge_length, judge_letter, judge_next, judge_object, judge_offer, judge_pair, judge_part, judge_refusal, judge_remote, kind_in, offer_of, onto, with_id, with_remotes}
+use Rattle.fetch_wire.specs.Judging.{Said, break_at, head_byte, judge_code, judge_content, judge_count, judge_end, judge_front, judge_head, judge_kind, judge_length, judge_letter, judge_next, judge_object, judge_offer, judge_pair, judge_part, judge_refusal, judge_remote, kind_in, offer_of, onto, with_id, with_remotes}
 use Rattle.fetch_wire.specs.SectionReadings.{AreObjects, AreParts, IsObjectPart, begun_of, begun_text}
 use Rattle.fetch_wire.specs.Sections.{IsCode, IsContent, IsHead, IsOffer, IsPair, end_word, kind_byte, object_text, offer_text, pair_text, part_text}
 use Rattle.fetch_wire.specs.declared.fault.Break.{Break}
@@ -32,7 +33,6 @@ use Rattle.fetch_wire.specs.declared.part.Which.TheVariants as which
 use Rattle.fetch_wire.specs.declared.units.Next.{Next}
 use Rattle.fetch_wire.specs.declared.units.Next.TheVariants as next
 use Rattle.fetch_wire.specs.declared.units.SectionUnits.{SectionUnits}
-use Rattle.fetch_wire.proofs.Rising.{above}
 use Rattle.fetch_wire.proofs.SectionsRead.{unit_at}
 use Rattle.fetch_wire.proofs.UnitTexts.{ComeFrom, IsBegunOffer, Told, behind_fits, told_letter, told_refusal, two_bytes}
 
@@ -182,7 +182,7 @@ told_pair p left id remotes unit pair good is text = by_tests (is_above remotes 
               id = good.is_id;
               few = omega arith;
               each = each_more IsPair remotes pair good.each is;
-              rising = rising_more remotes pair.0 pair.1 good.rising (above remotes pair.0 ea);
+              rising = rises_more node_of nid_cmp remotes pair good.rising (above remotes pair.0 ea);
             },
             come,
           );
@@ -198,7 +198,7 @@ told_pair p left id remotes unit pair good is text = by_tests (is_above remotes 
             few = omega arith;
             is_id = good.is_id;
             each = each_more IsPair remotes pair good.each is;
-            rising = rising_more remotes pair.0 pair.1 good.rising (above remotes pair.0 ea);
+            rising = rises_more node_of nid_cmp remotes pair good.rising (above remotes pair.0 ea);
           };
           parts = λ parts over come. some_more (left - 1) left parts over come;
         }

@@ -10,14 +10,14 @@ use Rattle.std.proofs.lemmas.Bool.{eqb-false, eqb-true, leb-true, ltb-true}
 use Rattle.std.proofs.lemmas.List.{get_or-append-add, length-take-le, take_all}
 use Rattle.std.proofs.Math.Seq.{drop-append_seam, take-append_seam}
 use Rattle.std.proofs.lemmas.Nat.{from_be_bytes-to_be_bytes_2}
-use Rattle.rad_base.specs.Order.{IsRising, nid_cmp}
+use Rattle.rad_base.specs.Order.{IsRising, is_above, nid_cmp, passes_if_some}
 use Rattle.rad_base.specs.Sizes.{IsNid, IsOid}
 use Rattle.rad_base.specs.declared.names.Nid.{Nid}
 use Rattle.rad_base.specs.declared.names.Oid.{Oid}
 use Rattle.rad_base.specs.declared.offer.Offer.{Offer}
 use Rattle.unit_reader.specs.Units.{Verdict, Begins, Ends, Breaks, FrontsBegin, Reading, behind, only, reading}
 use Rattle.unit_reader.proofs.Readings.{unit_read}
-use Rattle.fetch_wire.specs.Judging.{Said, break_at, further, is_above, is_behind, is_over, judge, judge_count, judge_pair, offer_of, onto, with_id, with_remotes}
+use Rattle.fetch_wire.specs.Judging.{Said, break_at, further, is_over, judge, judge_count, judge_pair, offer_of, onto, with_id, with_remotes}
 use Rattle.fetch_wire.specs.Sections.{IsOffer, IsPair, offer_text, pair_text}
 use Rattle.fetch_wire.specs.declared.fault.Break.{Break}
 use Rattle.fetch_wire.specs.declared.part.Part.{Part}
@@ -34,7 +34,7 @@ above_of [] pair more rising = refl
 above_of (a ∷ []) pair more rising = ap is_lt rising.0
 above_of (a ∷ b ∷ rest) pair more rising =
     let last : length (a ∷ b ∷ rest) - 1 ≡ suc (length (b ∷ rest) - 1) = omega arith in
-    subst (λ (k : ℕ). is_behind (slice_get (a ∷ b ∷ rest) k) pair.0 ≡ true) (sym last) (above_of (b ∷ rest) pair more rising.1)
+    subst (λ (k : ℕ). passes_if_some (λ (r : Nid × Oid). is_lt (nid_cmp r.0 pair.0)) (slice_get (a ∷ b ∷ rest) k) ≡ true) (sym last) (above_of (b ∷ rest) pair more rising.1)
 
 -- the two parts of bytes of a known length
 front_of : (a b : List ℕ) (n : ℕ) → length a ≡ n → take n (a ++ b) ≡ a

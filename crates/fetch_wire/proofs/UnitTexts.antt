@@ -12,7 +12,6 @@ use Rattle.hex.specs.Hex.{IsBytes}
 use Rattle.git_object.specs.declared.kind.Kind.{Kind}
 use Rattle.git_object.specs.declared.kind.Kind.TheVariants as kinds
 use Rattle.rad_base.proofs.EachItem.{each_more}
-use Rattle.rad_base.proofs.NameOrder.{rising_more}
 use Rattle.rad_base.proofs.OneFront.{IsFront, front_of}
 use Rattle.rad_base.specs.Order.{IsRising}
 use Rattle.rad_base.specs.Sizes.{HasBytes, IsNid, IsOid}
@@ -20,7 +19,7 @@ use Rattle.rad_base.specs.declared.names.Nid.{Nid}
 use Rattle.rad_base.specs.declared.names.Oid.{Oid}
 use Rattle.unit_reader.specs.Spelling.{only_text}
 use Rattle.unit_reader.specs.Units.{Verdict, Begins, Ends, Breaks, only}
-use Rattle.fetch_wire.specs.Judging.{Said, break_at, head_byte, is_above, judge_code, judge_content, judge_count, judge_end, judge_front, judge_head, judge_kind, judge_length, judge_letter, judge_next, judge_object, judge_offer, judge_pair, judge_part, judge_refusal, judge_remote, kind_in, offer_of, onto, with_id, with_remotes}
+use Rattle.fetch_wire.specs.Judging.{Said, break_at, head_byte, judge_code, judge_content, judge_count, judge_end, judge_front, judge_head, judge_kind, judge_length, judge_letter, judge_next, judge_object, judge_offer, judge_pair, judge_part, judge_refusal, judge_remote, kind_in, offer_of, onto, with_id, with_remotes}
 use Rattle.fetch_wire.specs.SectionReadings.{AreObjects, AreParts, IsObjectPart, begun_of, begun_text}
 use Rattle.fetch_wire.specs.Sections.{IsCode, IsContent, IsHead, IsOffer, IsPair, end_word, kind_byte, object_text, offer_text, pair_text, part_text}
 use Rattle.fetch_wire.specs.declared.fault.Break.{Break}
@@ -31,7 +30,6 @@ use Rattle.fetch_wire.specs.declared.part.Which.TheVariants as which
 use Rattle.fetch_wire.specs.declared.units.Next.{Next}
 use Rattle.fetch_wire.specs.declared.units.Next.TheVariants as next
 use Rattle.fetch_wire.specs.declared.units.SectionUnits.{SectionUnits}
-use Rattle.fetch_wire.proofs.Rising.{above}
 use Rattle.fetch_wire.proofs.SectionsRead.{unit_at}
 
 -- the parts that may come from a unit on, up to the end or not so far

@@ -1,9 +1,8 @@
 -- What bytes say of the unit of a section that stands next.
 use Rattle.std.specs.Prelude.{◌≡◌, ℕ, ◌+◌, ◌-◌, ◌^◌, ◌<◌, ◌==◌, min, nat_lt, nat_le, nat_eq, if◌then◌else◌, Bool, true, false, ◌||◌, ◌&&◌, List, [], ◌∷◌, ◌++◌, length, take, drop, slice_index, slice_get, slice_range, replicate, Option, None, Some}
 use Rattle.std.specs.List.{starts_with}
-use Rattle.std.specs.Ordering.{is_lt}
 use Rattle.std.specs.Int.{from_be_bytes, w16, w32}
-use Rattle.rad_base.specs.Order.{nid_cmp}
+use Rattle.rad_base.specs.Order.{is_above}
 use Rattle.rad_base.specs.declared.names.Nid.{Nid}
 use Rattle.rad_base.specs.declared.names.Oid.{Oid}
 use Rattle.git_object.specs.declared.kind.Kind.{Kind}
@@ -97,15 +96,6 @@ judge_front w units held =
     if slice_index held 0 == 82 then judge_refusal units held
     else if slice_index held 0 == head_byte w then judge_head w units held
     else Breaks (break_at units (length held))
-
--- the key is above that of the last remote
-abbrev pub is_behind : Option (Nid × Oid) → Nid → Bool
-is_behind None node = true
-is_behind (Some last) node = is_lt (nid_cmp last.0 node)
-
--- the key is above those of the remotes
-abbrev pub is_above : List (Nid × Oid) → Nid → Bool
-is_above remotes node = is_behind (slice_get remotes (length remotes - 1)) node
 
 -- a remote more, of so many that were left
 abbrev pub judge_pair : SectionUnits → ℕ → Nid → Oid → Said

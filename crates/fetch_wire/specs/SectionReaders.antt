@@ -40,11 +40,11 @@ pub record HasRead (which : Which) (fed : List ℕ) (parts : List Part) (reader 
   pub read : (rest : List ℕ) → reading is_over judge (first_unit which) [] (fed ++ rest) ≡ behind parts (reading is_over judge (unit_of reader) (held_of reader) rest)
 
 -- what feeding a piece answers to a reader that has read these bytes
-abbrev pub Feeds : Which → List ℕ → List Part → List ℕ → SectionReader → Result Fed SectionFault → Type 0
-Feeds which fed parts piece new (Ok got) =
+abbrev pub FeedsSection : Which → List ℕ → List Part → List ℕ → SectionReader → Result Fed SectionFault → Type 0
+FeedsSection which fed parts piece new (Ok got) =
     HasRead which (fed ++ take got.used piece) (parts ++ got.parts) new
     × (got.used ≤ length piece) × (got.done ≡ is_over (unit_of new)) × (got.done ≡ false → got.used ≡ length piece)
-Feeds which fed parts piece new (Err (fault.Bad broken)) =
+FeedsSection which fed parts piece new (Err (fault.Bad broken)) =
     (refused_as new ≡ Some (fault.Bad broken))
     × (read_of which (fed ++ piece) ≡ record { items = parts ++ before_of new; place = Broken broken })
-Feeds which fed parts piece new (Err fault.NoMemory) = refused_as new ≡ Some fault.NoMemory
+FeedsSection which fed parts piece new (Err fault.NoMemory) = refused_as new ≡ Some fault.NoMemory

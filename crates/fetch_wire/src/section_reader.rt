@@ -1,7 +1,7 @@
 // Reading a section from pieces of any length.
 ghost use Rattle.std.specs.Prelude.{◌≡◌, ℕ, List, [], None, Err, IfSome};
 ghost use Rattle.fetch_wire.specs.declared.part.Part.{Part};
-ghost use Rattle.fetch_wire.specs.SectionReaders.{Feeds, HasRead, before_of, fault_of, refused_as, unit_of};
+ghost use Rattle.fetch_wire.specs.SectionReaders.{FeedsSection, HasRead, before_of, fault_of, refused_as, unit_of};
 ghost use Rattle.fetch_wire.specs.declared.part.Which.{Which as Kind};
 
 use crate::units::SectionUnits;
@@ -53,7 +53,7 @@ impl SectionReader {
             (λ fault. (result ≡ Err fault) × (self.new ≡ self.old)) }
         ensures fed { (which : Kind) (fed : List ℕ) (parts : List Part)
             → HasRead which fed parts self.old
-            → Feeds which fed parts piece.now self.new result }
+            → FeedsSection which fed parts piece.now self.new result }
     {
         match self.reader.feed(alloc, piece) {
             Ok(fed) => Ok(Fed {

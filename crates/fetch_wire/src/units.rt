@@ -3,7 +3,7 @@ ghost use Rattle.std.specs.Prelude.{◌≡◌, ◌<◌, ◌≤◌, ◌↔◌, �
 ghost use Rattle.unit_reader.specs.Units.{Looks};
 ghost use Rattle.unit_reader.specs.Units.{Begins};
 ghost use Rattle.unit_reader.specs.declared.units.Stop.TheVariants as stop;
-ghost use Rattle.fetch_wire.specs.Judging.{break_at, first_unit, head_byte, is_over, is_above, judge_content, judge_end, judge_front, judge_head, judge_letter, judge_object, judge_offer, judge_part, judge_refusal, judge_remote, kind_in, onto};
+ghost use Rattle.fetch_wire.specs.Judging.{break_at, first_unit, head_byte, is_over, judge_content, judge_end, judge_front, judge_head, judge_letter, judge_object, judge_offer, judge_part, judge_refusal, judge_remote, kind_in, onto};
 
 use crate::{Break, Part, Which};
 use git_object::Kind;
@@ -270,16 +270,6 @@ fn look_content(
     Ok(Look::Whole(Part::Object(kind, Bytes::of(content))))
 }
 
-// Whether a key is above those of the remotes.
-fn is_above(remotes: &Remotes, node: &Nid) -> bool
-    ensures { result ≡ is_above remotes.now node.now }
-{
-    match remotes.as_slice().last() {
-        None => true,
-        Some(last) => last.0.cmp(node).is_lt(),
-    }
-}
-
 fn look_remote(
     units: &mut SectionUnits,
     alloc: Global,
@@ -296,7 +286,7 @@ fn look_remote(
     let node = Nid(node);
     let mut oid = [0; 20];
     oid.copy_from_slice(&held[32..52]);
-    if !is_above(&units.remotes, &node) {
+    if !units.remotes.is_above(&node) {
         return Err(broken(units, held));
     }
     units.remotes.push(node, Oid(oid))?;

@@ -3,7 +3,9 @@ use Rattle.std.proofs.Common.{Bool, false, ◌==◌, ◌≡◌, ℕ, ◌+◌, �
 use Rattle.std.proofs.lemmas.List.{append-nil, take-append-drop, length-drop, take_at, drop_at}
 use Rattle.std.specs.List.{AllByRecursion}
 use Rattle.rad_base.proofs.EachItem.{each_more}
-use Rattle.git_object.specs.Grammar.{Entry, IsBelow, IsEntry, IsRisingFrom, IsTree, SpellsEntries, SpellsTree, entry_text, key_of, tree_text}
+use Rattle.rad_base.specs.Order.{IsBelow, last_from}
+use Rattle.rad_base.proofs.Rising.{last_more, rise_more}
+use Rattle.git_object.specs.Grammar.{Entry, IsEntry, IsRisingFrom, IsTree, SpellsEntries, SpellsTree, entry_text, order_key, tree_text}
 use Rattle.git_object.specs.Places.{BreaksTree, HasNoEntryAbove}
 use Rattle.git_object.specs.Reading.{entries_in}
 use Rattle.git_object.proofs.EntryTexts.{entries_first, entries_none, entry_longer}
@@ -22,7 +24,7 @@ pub tree_reads : (before : Option (List ℕ)) (entries : List Entry) (bytes : Li
 tree_reads before [] bytes s = entries_none bytes (rw s.text nothing_no_entry)
 tree_reads before (e ∷ entries) bytes s =
     entries_first bytes (tree_text entries) e s.each.0 s.text
-    ∙ ap (λ (l : List Entry). e ∷ l) (tree_reads (Some (key_of e)) entries (tree_text entries) (record { each = s.each.1; rising = s.rising.1; text = refl }))
+    ∙ ap (λ (l : List Entry). e ∷ l) (tree_reads (Some (order_key e)) entries (tree_text entries) (record { each = s.each.1; rising = s.rising.1; text = refl }))
 
 -- bytes spell one list of entries
 pub one_tree : (es fs : List Entry) (bytes : List ℕ) → SpellsTree es bytes → SpellsTree fs bytes → es ≡ fs
@@ -32,28 +34,13 @@ one_tree es fs bytes a b = sym (tree_reads None es bytes a) ∙ tree_reads None 
 pub tree_entries : (bytes : List ℕ) → IsTree bytes → SpellsTree (entries_in bytes) bytes
 tree_entries bytes t = subst (λ (es : List Entry). SpellsTree es bytes) (sym (tree_reads None t.0 bytes t.1)) t.1
 
--- the last key of some entries, or the one before them
-abbrev pub last_from : Option (List ℕ) → List Entry → Option (List ℕ)
-last_from before [] = before
-last_from before (e ∷ entries) = last_from (Some (key_of e)) entries
-
 -- the entries in front of a rest, the last one with this key
 pub record IsReadTo (bytes rest : List ℕ) (last : Option (List ℕ)) : Type 0 where
   pub entries : List Entry
   pub each : AllByRecursion IsEntry entries
   pub rising : IsRisingFrom None entries
-  pub end : last_from None entries ≡ last
+  pub end : last_from order_key None entries ≡ last
   pub text : bytes ≡ tree_text entries ++ rest
-
--- one more entry, above those before it
-pub rising_more : (before : Option (List ℕ)) (es : List Entry) (e : Entry) → IsRisingFrom before es → IsBelow (last_from before es) (key_of e) → IsRisingFrom before (es ++ e ∷ [])
-rising_more before [] e rising below = (below, tt)
-rising_more before (f ∷ es) e rising below = (rising.0, rising_more (Some (key_of f)) es e rising.1 below)
-
--- whose key is the last
-pub last_more : (before : Option (List ℕ)) (es : List Entry) (e : Entry) → last_from before (es ++ e ∷ []) ≡ Some (key_of e)
-last_more before [] e = refl
-last_more before (f ∷ es) e = last_more (Some (key_of f)) es e
 
 pub tree_text-append : (es fs : List Entry) → tree_text (es ++ fs) ≡ tree_text es ++ tree_text fs
 tree_text-append [] fs = refl
@@ -65,12 +52,12 @@ read_none bytes = record { entries = []; each = tt; rising = tt; end = refl; tex
 
 -- one more entry, above those before it
 pub read_more : (bytes rest more : List ℕ) (last : Option (List ℕ)) (e : Entry) → IsReadTo bytes rest last → IsEntry e → rest ≡ entry_text e ++ more
-    → IsBelow last (key_of e) → IsReadTo bytes more (Some (key_of e))
+    → IsBelow last (order_key e) → IsReadTo bytes more (Some (order_key e))
 read_more bytes rest more last e r is h below = record {
   entries = r.entries ++ e ∷ [];
   each = each_more IsEntry r.entries e r.each is;
-  rising = rising_more None r.entries e r.rising (subst (λ (k : Option (List ℕ)). IsBelow k (key_of e)) (sym r.end) below);
-  end = last_more None r.entries e;
+  rising = rise_more order_key None r.entries e r.rising (subst (λ (k : Option (List ℕ)). IsBelow k (order_key e)) (sym r.end) below);
+  end = last_more order_key None r.entries e;
   text =
       r.text ∙ ap (λ (l : List ℕ). tree_text r.entries ++ l) h
       ∙ sym (append_assoc (tree_text r.entries) (entry_text e) more)
@@ -90,20 +77,20 @@ read_all bytes rest last r none = tree_entries bytes (
 
 -- what stands behind some entries of a tree spells entries above them
 pub tree_behind : (before : Option (List ℕ)) (es fs : List Entry) (rest : List ℕ) → AllByRecursion IsEntry es → SpellsEntries before fs (tree_text es ++ rest)
-    → (gs : List Entry) × SpellsEntries (last_from before es) gs rest
+    → (gs : List Entry) × SpellsEntries (last_from order_key before es) gs rest
 tree_behind before [] fs rest each s = (fs, s)
 tree_behind before (e ∷ es) [] rest each s =
     absurd (nothing_no_entry e (tree_text es ++ rest) each.0 (sym s.text ∙ append_assoc (entry_text e) (tree_text es) rest))
 tree_behind before (e ∷ es) (f ∷ fs) rest each s =
     let one = one_entry e f (tree_text es ++ rest) (tree_text fs) each.0 s.each.0 (sym (append_assoc (entry_text e) (tree_text es) rest) ∙ s.text) in
-    let rising = subst (λ (g : Entry). IsRisingFrom (Some (key_of g)) fs) (sym one.0) s.rising.1 in
-    tree_behind (Some (key_of e)) es fs rest each.1 (record { each = s.each.1; rising = rising; text = one.1 })
+    let rising = subst (λ (g : Entry). IsRisingFrom (Some (order_key g)) fs) (sym one.0) s.rising.1 in
+    tree_behind (Some (order_key e)) es fs rest each.1 (record { each = s.each.1; rising = rising; text = one.1 })
 
 -- the one entry that stands in front is not above the key
-pub none_above : (last : Option (List ℕ)) (bytes more : List ℕ) (e : Entry) → IsEntry e → bytes ≡ entry_text e ++ more → (IsBelow last (key_of e) → ⊥) → HasNoEntryAbove last bytes
+pub none_above : (last : Option (List ℕ)) (bytes more : List ℕ) (e : Entry) → IsEntry e → bytes ≡ entry_text e ++ more → (IsBelow last (order_key e) → ⊥) → HasNoEntryAbove last bytes
 none_above last bytes more e is h not f rest js k below =
     let one = one_entry e f more rest is js (sym h ∙ k) in
-    not (subst (λ (g : Entry). IsBelow last (key_of g)) (sym one.0) below)
+    not (subst (λ (g : Entry). IsBelow last (order_key g)) (sym one.0) below)
 
 -- behind the entries that were read some bytes are left, and no entry that may follow stands there
 pub broken_tree : (bytes rest : List ℕ) (last : Option (List ℕ)) (place : ℕ) → IsReadTo bytes rest last → 0 < length rest → HasNoEntryAbove last rest
@@ -122,19 +109,19 @@ broken_tree bytes rest last place r some none at =
     }
   where
     no_next : (r : IsReadTo bytes rest last) (rest' : List ℕ) (last' : Option (List ℕ)) (entry : Entry) (more : List ℕ) → HasNoEntryAbove last rest → rest ≡ entry_text entry ++ more
-        → (gs : List Entry) → SpellsEntries (last_from None r.entries) gs (entry_text entry) → ⊥
+        → (gs : List Entry) → SpellsEntries (last_from order_key None r.entries) gs (entry_text entry) → ⊥
     no_next r rest' last' entry more none h [] s = omega (arith, ap length s.text, entry_longer entry [], length-append (entry_text entry) [])
     no_next r rest' last' entry more none h (g ∷ gs) s =
         none g (tree_text gs ++ more) s.each.0 (h ∙ ap (λ (l : List ℕ). l ++ more) s.text ∙ append_assoc (entry_text g) (tree_text gs) more)
-        (subst (λ (k : Option (List ℕ)). IsBelow k (key_of g)) r.end s.rising.0)
+        (subst (λ (k : Option (List ℕ)). IsBelow k (order_key g)) r.end s.rising.0)
 
 -- one more entry behind a tree
-pub tree_more : (es : List Entry) (front : List ℕ) (g : Entry) → SpellsTree es front → IsEntry g → IsBelow (last_from None es) (key_of g) → IsTree (front ++ entry_text g)
+pub tree_more : (es : List Entry) (front : List ℕ) (g : Entry) → SpellsTree es front → IsEntry g → IsBelow (last_from order_key None es) (order_key g) → IsTree (front ++ entry_text g)
 tree_more es front g s is below = (
   es ++ g ∷ [],
   record {
     each = each_more IsEntry es g s.each is;
-    rising = rising_more None es g s.rising below;
+    rising = rise_more order_key None es g s.rising below;
     text =
         ap (λ (l : List ℕ). l ++ entry_text g) s.text
         ∙ ap (λ (l : List ℕ). tree_text es ++ l) (sym (append-nil (entry_text g))) ∙ sym (tree_text-append es (g ∷ []));
@@ -151,7 +138,7 @@ no_tree_behind bytes rest more place b e some t =
     let next = tree_behind None es t.0 rest front.each (subst (λ (l : List ℕ). SpellsEntries None t.0 l) whole t.1) in
     stands es front next.0 next.1
   where
-    stands : (es : List Entry) → SpellsTree es (take place bytes) → (gs : List Entry) → SpellsEntries (last_from None es) gs rest → ⊥
+    stands : (es : List Entry) → SpellsTree es (take place bytes) → (gs : List Entry) → SpellsEntries (last_from order_key None es) gs rest → ⊥
     stands es front [] s = omega (arith, some, ap length s.text)
     stands es front (g ∷ gs) s =
         b.broken g (tree_text gs ++ more) (e ∙ ap (λ (l : List ℕ). l ++ more) s.text ∙ append_assoc (entry_text g) (tree_text gs) more)

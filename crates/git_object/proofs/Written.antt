@@ -7,16 +7,18 @@ use Rattle.rad_base.proofs.EachItem.{each_between, each_more}
 use Rattle.rad_base.specs.Sizes.{IsOid}
 use Rattle.rad_base.specs.declared.names.Oid.{Oid}
 use Rattle.git_object.specs.Faults.{IsFirstBad}
-use Rattle.git_object.specs.Grammar.{Entry, IsBelow, IsEntry, IsName, IsRisingFrom, SpellsTree, entry_text, key_of, oid_line, parents_text, tree_text}
+use Rattle.git_object.specs.Grammar.{Entry, IsEntry, IsName, IsRisingFrom, SpellsTree, entry_text, order_key, oid_line, parents_text, tree_text}
 use Rattle.git_object.specs.Views.{entry_named}
 use Rattle.git_object.specs.declared.named_entry.NamedEntry.{NamedEntry}
 use Rattle.git_object.proofs.Lines.{parents_text-append}
-use Rattle.git_object.proofs.TreeTexts.{last_from, last_more, rising_more, tree_text-append}
+use Rattle.git_object.proofs.TreeTexts.{tree_text-append}
+use Rattle.rad_base.specs.Order.{IsBelow, last_from}
+use Rattle.rad_base.proofs.Rising.{last_more, rise_last, rise_more}
 
 -- the first i entries are written, the last of them with this key
 pub record IsWrittenTo (entries : List Entry) (i : ℕ) (bytes : List ℕ) (last : Option (List ℕ)) : Type 0 where
   pub spelled : SpellsTree (take i entries) bytes
-  pub end : last_from None (take i entries) ≡ last
+  pub end : last_from order_key None (take i entries) ≡ last
 
 -- none at the start
 pub written_none : (entries : List Entry) → IsWrittenTo entries 0 [] None
@@ -24,30 +26,26 @@ written_none entries = record { spelled = record { each = tt; rising = tt; text 
 
 -- one more entry, above those before it
 pub written_more : (entries : List Entry) (i : ℕ) (bytes new : List ℕ) (last : Option (List ℕ)) (e : Entry) → IsWrittenTo entries i bytes last
-    → i < length entries → get_or entries i e ≡ e → IsEntry e → IsBelow last (key_of e) → new ≡ bytes ++ entry_text e
-    → IsWrittenTo entries (i + 1) new (Some (key_of e))
+    → i < length entries → get_or entries i e ≡ e → IsEntry e → IsBelow last (order_key e) → new ≡ bytes ++ entry_text e
+    → IsWrittenTo entries (i + 1) new (Some (order_key e))
 written_more entries i bytes new last e w inside at is below h =
     let es = take i entries in
     let more : take (i + 1) entries ≡ es ++ e ∷ [] = take_more entries i e inside ∙ ap (λ (x : Entry). es ++ x ∷ []) at in
     let spelled : SpellsTree (es ++ e ∷ []) new = record {
       each = each_more IsEntry es e w.spelled.each is;
-      rising = rising_more None es e w.spelled.rising (subst (λ (k : Option (List ℕ)). IsBelow k (key_of e)) (sym w.end) below);
+      rising = rise_more order_key None es e w.spelled.rising (subst (λ (k : Option (List ℕ)). IsBelow k (order_key e)) (sym w.end) below);
       text =
           h ∙ ap (λ (l : List ℕ). l ++ entry_text e) w.spelled.text
           ∙ ap (λ (l : List ℕ). tree_text es ++ l) (sym (append-nil (entry_text e))) ∙ sym (tree_text-append es (e ∷ []));
     } in
     record {
       spelled = subst (λ (l : List Entry). SpellsTree l new) (sym more) spelled;
-      end = ap (last_from None) more ∙ last_more None es e;
+      end = ap (last_from order_key None) more ∙ last_more order_key None es e;
     }
-
-rising_last : (before : Option (List ℕ)) (es : List Entry) (e : Entry) → IsRisingFrom before (es ++ e ∷ []) → IsBelow (last_from before es) (key_of e)
-rising_last before [] e rising = rising.0
-rising_last before (f ∷ es) e rising = rising_last (Some (key_of f)) es e rising.1
 
 -- an entry that may not come next is the first bad one
 pub first_bad : (entries : List Entry) (i : ℕ) (bytes : List ℕ) (last : Option (List ℕ)) (e : Entry) → IsWrittenTo entries i bytes last
-    → i < length entries → get_or entries i e ≡ e → (IsName e.name → IsBelow last (key_of e) → ⊥) → IsFirstBad entries i
+    → i < length entries → get_or entries i e ≡ e → (IsName e.name → IsBelow last (order_key e) → ⊥) → IsFirstBad entries i
 first_bad entries i bytes last e w inside at bad =
     let es = take i entries in
     let more : take (i + 1) entries ≡ es ++ e ∷ [] = take_more entries i e inside ∙ ap (λ (x : Entry). es ++ x ∷ []) at in
@@ -57,7 +55,7 @@ first_bad entries i bytes last e w inside at bad =
       bad = λ s.
           let each = subst (λ (l : List Entry). AllByRecursion IsEntry l) more s.each in
           let rising = subst (λ (l : List Entry). IsRisingFrom None l) more s.rising in
-          bad (each_between IsEntry es e [] each).name (subst (λ (k : Option (List ℕ)). IsBelow k (key_of e)) w.end (rising_last None es e rising));
+          bad (each_between IsEntry es e [] each).name (subst (λ (k : Option (List ℕ)). IsBelow k (order_key e)) w.end (rise_last order_key None es e rising));
     }
 
 -- all entries are written

@@ -1,11 +1,9 @@
 -- The grammar of trees, commits and tags: what a value has, and the bytes that spell it.
-use Rattle.std.specs.Prelude.{◌≡◌, ◌≢◌, ℕ, ◌<◌, List, [], ◌∷◌, ◌++◌, length, codes, Option, None, Some}
+use Rattle.std.specs.Prelude.{◌≡◌, ◌≢◌, ℕ, ◌<◌, List, [], ◌∷◌, ◌++◌, length, codes, Option, None}
 use Rattle.std.specs.List.{All, AllByRecursion}
-use Rattle.std.specs.declared.cmp.Ordering.TheVariants.{Less}
-use Rattle.std.specs.Ordering.{nat_cmp}
-use Rattle.std.specs.Cmp.Lexicographic.{slice_cmp}
 use Rattle.hex.specs.Hex.{encode_lower}
 use Rattle.rad_base.specs.Lists.{BeginsWith}
+use Rattle.rad_base.specs.Order.{RiseFrom}
 use Rattle.rad_base.specs.Sizes.{IsOid}
 use Rattle.rad_base.specs.declared.names.Oid.{Oid}
 use Rattle.git_object.specs.Names.{kind_word}
@@ -52,18 +50,12 @@ slash_of Symlink = []
 slash_of Gitlink = []
 
 -- what entries are in order of
-abbrev pub key_of : Entry → List ℕ
-key_of entry = entry.name ++ slash_of entry.mode
-
--- above the key before, where there is one
-abbrev pub IsBelow : Option (List ℕ) → List ℕ → Type 0
-IsBelow None key = Unit {0}
-IsBelow (Some before) key = slice_cmp nat_cmp before key ≡ Less
+abbrev pub order_key : Entry → List ℕ
+order_key entry = entry.name ++ slash_of entry.mode
 
 -- each key is below the next, the first above the key before, where there is one
 abbrev pub IsRisingFrom : Option (List ℕ) → List Entry → Type 0
-IsRisingFrom before [] = Unit {0}
-IsRisingFrom before (entry ∷ entries) = IsBelow before (key_of entry) × IsRisingFrom (Some (key_of entry)) entries
+IsRisingFrom before entries = RiseFrom order_key before entries
 
 -- the texts of the entries, one after the other
 abbrev pub tree_text : List Entry → List ℕ

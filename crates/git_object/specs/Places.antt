@@ -4,13 +4,14 @@ use Rattle.std.specs.List.{AllByRecursion}
 use Rattle.rad_base.specs.Sizes.{IsOid}
 use Rattle.rad_base.specs.declared.names.Oid.{Oid}
 use Rattle.rad_base.specs.Lists.{BeginsWith}
-use Rattle.git_object.specs.Grammar.{Entry, IsBelow, IsEntry, IsTree, entry_text, key_of, oid_line, parents_text, type_line}
+use Rattle.rad_base.specs.Order.{IsBelow}
+use Rattle.git_object.specs.Grammar.{Entry, IsEntry, IsTree, entry_text, order_key, oid_line, parents_text, type_line}
 use Rattle.git_object.specs.declared.kind.Kind.{Kind}
 use Rattle.git_object.specs.declared.kind.Kind.TheVariants.{Blob, Tree, Commit, Tag}
 
 -- no entry that may stand behind a key stands at the front
 abbrev pub HasNoEntryAbove : Option (List ℕ) → List ℕ → Type 0
-HasNoEntryAbove last bytes = (entry : Entry) (rest : List ℕ) → IsEntry entry → bytes ≡ entry_text entry ++ rest → IsBelow last (key_of entry) → ⊥
+HasNoEntryAbove last bytes = (entry : Entry) (rest : List ℕ) → IsEntry entry → bytes ≡ entry_text entry ++ rest → IsBelow last (order_key entry) → ⊥
 
 -- what stands before the place is a tree, and no entry at the place would make it a longer one
 pub record BreaksTree (bytes : List ℕ) (place : ℕ) : Type 0 where

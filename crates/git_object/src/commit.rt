@@ -4,7 +4,7 @@ ghost use Rattle.std.specs.Iterator.{YieldsFirst, item_count};
 ghost use Rattle.rad_base.specs.Sizes.{IsOid};
 ghost use Rattle.git_object.specs.Grammar.{IsCommit, SpellsCommit, oid_line};
 ghost use Rattle.git_object.specs.Places.{BreaksCommit, HasNoLine, StandsBehindParents};
-ghost use Rattle.git_object.specs.Views.{commit_of, parents_of};
+ghost use Rattle.git_object.specs.Views.{commit_of_parts, parents_of};
 
 use crate::Bad;
 use crate::digits::name_front;
@@ -69,7 +69,7 @@ fn behind_parents(bytes: &[u8]) -> &[u8]
 ///
 /// This is after Git's object format, in this project's profile: any bytes behind `author `.
 pub fn read_commit(bytes: &[u8]) -> Result<CommitParts<'_>, Bad>
-    ensures commit { IfOk result (λ parts. SpellsCommit (commit_of parts) bytes.now) }
+    ensures commit { IfOk result (λ parts. SpellsCommit (commit_of_parts parts) bytes.now) }
     ensures bad { IfErr result (λ bad. BreaksCommit bytes.now bad.place) }
     ensures exact { IsOk result ↔ IsCommit bytes.now }
 {

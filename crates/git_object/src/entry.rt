@@ -3,8 +3,8 @@ ghost use Rattle.std.specs.Prelude.{◌≡◌, ◌∷◌, ◌++◌, ℕ, List, c
 ghost use Rattle.std.specs.Ordering.{nat_cmp};
 ghost use Rattle.std.specs.Cmp.Lexicographic.{slice_cmp};
 ghost use Rattle.git_object.specs.Grammar.{Entry, IsEntry, IsName, entry_text};
-ghost use Rattle.git_object.specs.Grammar.{key_of, mode_text, slash_of};
-ghost use Rattle.git_object.specs.Views.{entry_of};
+ghost use Rattle.git_object.specs.Grammar.{order_key, mode_text, slash_of};
+ghost use Rattle.git_object.specs.Views.{tree_entry_of};
 
 use crate::Mode;
 use rad_base::{Oid, after, oid_front};
@@ -70,8 +70,8 @@ fn name_at(bytes: &[u8]) -> Option<(&[u8], &[u8])>
 
 // The entry at the front, and what stands behind it.
 pub(crate) fn entry_at(bytes: &[u8]) -> Option<(TreeEntry<'_>, &[u8])>
-    ensures found { IfSome result (λ x. IsEntry (entry_of x.0)
-        × (bytes.now ≡ entry_text (entry_of x.0) ++ x.1.now)) }
+    ensures found { IfSome result (λ x. IsEntry (tree_entry_of x.0)
+        × (bytes.now ≡ entry_text (tree_entry_of x.0) ++ x.1.now)) }
     ensures none { IfNone result ((entry : Entry) (rest : List ℕ)
         → IsEntry entry → bytes.now ≡ entry_text entry ++ rest → ⊥) }
 {
@@ -93,7 +93,7 @@ fn slash(mode: Mode) -> &'static [u8]
 
 // The order of two entries, which is that of their keys.
 pub(crate) fn key_order(a: &TreeEntry<'_>, b: &TreeEntry<'_>) -> Ordering
-    ensures { result ≡ slice_cmp nat_cmp (key_of (entry_of a.now)) (key_of (entry_of b.now)) }
+    ensures { result ≡ slice_cmp nat_cmp (order_key (tree_entry_of a.now)) (order_key (tree_entry_of b.now)) }
 {
     let first = a.name.iter().chain(slash(a.mode).iter());
     let second = b.name.iter().chain(slash(b.mode).iter());

@@ -1,6 +1,6 @@
 // An entry of a tree that owns its name.
 ghost use Rattle.std.specs.Prelude.{◌≡◌};
-ghost use Rattle.git_object.specs.Views.{entry_named, entry_of};
+ghost use Rattle.git_object.specs.Views.{entry_named, tree_entry_of};
 
 use crate::{Mode, TreeEntry};
 use rad_base::{Bytes, Oid};
@@ -19,7 +19,7 @@ pub struct NamedEntry {
 impl NamedEntry {
     /// The entry, with its name lent.
     pub fn as_entry(&self) -> TreeEntry<'_>
-        ensures { entry_of result ≡ entry_named self.now }
+        ensures { tree_entry_of result ≡ entry_named self.now }
     {
         let name = self.name.as_slice();
         TreeEntry {

@@ -1,9 +1,10 @@
 // Trees, read from the front: entries that lie in the bytes of an object.
 ghost use Rattle.std.specs.Prelude.{◌↔◌, IfErr, IfNone, IfOk, IfSome, IsOk, IsTrue};
 ghost use Rattle.std.specs.Iterator.{YieldsFirstBy, item_count};
-ghost use Rattle.git_object.specs.Grammar.{IsBelow, IsTree, SpellsTree, key_of};
+ghost use Rattle.rad_base.specs.Order.{IsBelow};
+ghost use Rattle.git_object.specs.Grammar.{IsTree, SpellsTree, order_key};
 ghost use Rattle.git_object.specs.Places.{BreaksTree, HasNoEntryAbove};
-ghost use Rattle.git_object.specs.Views.{FollowsFrom, entries_of, entry_of, last_key};
+ghost use Rattle.git_object.specs.Views.{FollowsFrom, tree_entries_of, tree_entry_of, last_key};
 
 use crate::Bad;
 use crate::entry::{TreeEntry, entry_at, key_order};
@@ -18,9 +19,9 @@ pub struct TreeEntries<'a> {
 impl<'a> Iterator for TreeEntries<'a> {
     type Item = TreeEntry<'a>;
 
-    ghost next_gives = { YieldsFirstBy entry_of entries_of };
+    ghost next_gives = { YieldsFirstBy tree_entry_of tree_entries_of };
 
-    ghost remaining = { item_count entries_of };
+    ghost remaining = { item_count tree_entries_of };
 
     fn next(&mut self) -> Option<TreeEntry<'a>> {
         let (entry, rest) = entry_at(self.rest)?;
@@ -31,7 +32,7 @@ impl<'a> Iterator for TreeEntries<'a> {
 
 // Whether an entry may come behind the one before.
 pub(crate) fn is_in_order(before: &Option<TreeEntry<'_>>, entry: &TreeEntry<'_>) -> bool
-    ensures { IsTrue result ↔ IsBelow (last_key before.now) (key_of (entry_of entry.now)) }
+    ensures { IsTrue result ↔ IsBelow (last_key before.now) (order_key (tree_entry_of entry.now)) }
 {
     match before {
         None => true,
@@ -60,7 +61,7 @@ fn entry_behind<'a>(
 ///
 /// This is after Git's object format, in this project's profile: the six modes of `Mode` alone.
 pub fn read_tree(bytes: &[u8]) -> Result<TreeEntries<'_>, Bad>
-    ensures tree { IfOk result (λ entries. SpellsTree (entries_of entries) bytes.now) }
+    ensures tree { IfOk result (λ entries. SpellsTree (tree_entries_of entries) bytes.now) }
     ensures bad { IfErr result (λ bad. BreaksTree bytes.now bad.place) }
     ensures exact { IsOk result ↔ IsTree bytes.now }
 {

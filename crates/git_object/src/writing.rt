@@ -7,7 +7,7 @@ ghost use Rattle.git_object.specs.Faults.{IsTreeFault};
 ghost use Rattle.rad_base.specs.Lists.{BeginsWith};
 ghost use Rattle.git_object.specs.Grammar.{IsName, entry_text, oid_line};
 ghost use Rattle.git_object.specs.Grammar.{SpellsCommit, SpellsTag, SpellsTree};
-ghost use Rattle.git_object.specs.Views.{entry_named, entry_of};
+ghost use Rattle.git_object.specs.Views.{entry_named, tree_entry_of};
 
 use crate::tree::is_in_order;
 use crate::{Kind, NamedEntry, TreeEntry};
@@ -59,7 +59,7 @@ fn raw(bytes: &[u8; 20]) -> &[u8]
 // Adds the text of an entry.
 fn push_entry(bytes: &mut Vec<u8>, entry: &TreeEntry<'_>) -> Result<(), AllocError>
     ensures text { OnOk result (bytes.new.items
-        ≡ bytes.old.items ++ entry_text (entry_of entry.now)) }
+        ≡ bytes.old.items ++ entry_text (tree_entry_of entry.now)) }
     ensures size { OnOk result (length entry.now.oid.0 ≡ 20) }
 {
     bytes.extend_from_slice(entry.mode.text())?;

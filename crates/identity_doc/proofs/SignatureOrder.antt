@@ -11,24 +11,15 @@ use Rattle.std.proofs.lemmas.List.Folds.{list_any_none}
 use Rattle.std.proofs.lemmas.List.Sorted.{searchable_from_sorted}
 use Rattle.rad_base.specs.declared.names.Nid.{Nid}
 use Rattle.rad_base.specs.Order.{nid_cmp}
+use Rattle.std.proofs.lemmas.Option.{slice_get-get_or}
+use Rattle.rad_base.proofs.Members.{contains_at}
 use Rattle.rad_base.proofs.NameOrder.{nid_exact, nid_total}
+use Rattle.rad_base.proofs.Rising.{rises_below, rises_searched, rises_tail}
 use Rattle.identity_doc.specs.declared.signatures.SignatureLine.{SignatureLine}
-use Rattle.identity_doc.specs.Signatures.{AreRisingKeys}
+use Rattle.identity_doc.specs.Signatures.{AreRisingKeys, key_in}
 use Rattle.identity_doc.specs.SignatureReaders.{KeyMayFollow}
 
 -- ---- the last line
-
--- one more line above the others
-pub rising_push : (lines : List SignatureLine) (line : SignatureLine) → AreRisingKeys lines → KeyMayFollow lines line.key → AreRisingKeys (lines ++ line ∷ [])
-rising_push [] line rising may = tt
-rising_push (x ∷ []) line rising may = (may, tt)
-rising_push (x ∷ y ∷ lines) line rising may = (rising.0, rising_push (y ∷ lines) line rising.1 may)
-
--- where the lines rise, the last is above those before it
-pub rising_last : (lines : List SignatureLine) (line : SignatureLine) → AreRisingKeys (lines ++ line ∷ []) → KeyMayFollow lines line.key
-rising_last [] line rising = tt
-rising_last (x ∷ []) line rising = rising.0
-rising_last (x ∷ y ∷ lines) line rising = rising_last (y ∷ lines) line rising.1
 
 -- what may follow is above the last line
 pub may_follow_last : (lines : List SignatureLine) (last : SignatureLine) (key : Nid) → slice_get lines (length lines - 1) ≡ Some last
@@ -51,9 +42,6 @@ lt_is_less Greater h = cc h
 
 -- ---- comparisons
 
-reversed_less : (a b : Nid) → nid_cmp a b ≡ Less → is_lt (nid_cmp b a) ≡ false
-reversed_less a b e = ap is_lt (nid_total.antisymm b a ∙ ap ordering_reverse e)
-
 less_apart : (a b : Nid) → nid_cmp a b ≡ Less → eq_by_cmp nid_cmp a b ≡ false
 less_apart a b e = ap is_eq e
 
@@ -64,30 +52,11 @@ greater_apart a b e = ap is_eq (nid_total.antisymm b a ∙ ap ordering_reverse e
 
 -- the lines behind the first are above it
 rising_below : (x : SignatureLine) (lines : List SignatureLine) → AreRisingKeys (x ∷ lines) → All (λ y. nid_cmp x.key y.key ≡ Less) lines
-rising_below x [] rising = λ k d inside. absurd (omega arith)
-rising_below x (y ∷ lines) rising =
-    All-cons (λ z. nid_cmp x.key z.key ≡ Less) y lines rising.0
-    (All-weaker (λ z. nid_cmp y.key z.key ≡ Less) (λ z. nid_cmp x.key z.key ≡ Less)
-    (λ z h. nid_total.trans x.key y.key z.key rising.0 h) lines (rising_below y lines rising.1))
-
-rising_tail : (x : SignatureLine) (lines : List SignatureLine) → AreRisingKeys (x ∷ lines) → AreRisingKeys lines
-rising_tail x [] rising = tt
-rising_tail x (y ∷ lines) rising = rising.1
-
-sorted_at : (lines : List SignatureLine) → AreRisingKeys lines → (k : ℕ) (d : SignatureLine) → k + 1 < length lines
-    → is_lt (nid_cmp (get_or lines (k + 1) d).key (get_or lines k d).key) ≡ false
-sorted_at [] rising k d inside = absurd (omega arith)
-sorted_at (x ∷ []) rising k d inside = absurd (omega arith)
-sorted_at (x ∷ y ∷ lines) rising zero d inside = reversed_less x.key y.key rising.0
-sorted_at (x ∷ y ∷ lines) rising (suc k) d inside =
-    let next : suc k + 1 ≡ suc (k + 1) = omega arith in
-    rw next (sorted_at (y ∷ lines) rising.1 k d (omega arith))
+rising_below x lines rising = λ k d inside. rises_below key_in nid_cmp nid_total x lines rising (get_or lines k d) (contains_at lines k (get_or lines k d) (slice_get-get_or lines k d inside))
 
 -- the comparisons with a key rise along the lines, as a binary search asks
 comparisons_rise : (lines : List SignatureLine) → AreRisingKeys lines → (key : Nid) → IsNonDecreasingBy (λ line. ordering_index (nid_cmp line.key key)) lines
-comparisons_rise lines rising key =
-    let sorted : IsSortedBy (λ (a b : SignatureLine). is_lt (nid_cmp a.key b.key)) lines = λ k d low high. sorted_at lines rising k d high in
-    searchable_from_sorted nid_total (λ (line : SignatureLine). line.key) lines key sorted
+comparisons_rise lines rising key = rises_searched key_in nid_cmp nid_total lines key rising
 
 -- ---- the line of a key
 
@@ -111,7 +80,7 @@ alone (x ∷ lines) rising test key (suc at) d inside here =
     let below : nid_cmp x.key (get_or lines at d).key ≡ Less = rising_below x lines rising at d (omega arith) in
     let same : (get_or lines at d).key ≡ key = nid_exact (get_or lines at d).key key here in
     let apart : eq_by_cmp nid_cmp x.key key ≡ false = less_apart x.key key (rw same at below) in
-    rw apart (alone lines (rising_tail x lines rising) test key at d (omega arith) here)
+    rw apart (alone lines (rises_tail key_in nid_cmp x lines rising) test key at d (omega arith) here)
 
 -- a line that is apart from the key fails the test of the lines of the key
 apart_fails : (o : Ordering) (b : Bool) → (o ≡ Less) ⊎ (o ≡ Greater) → (is_eq o && b) ≡ false

@@ -7,7 +7,9 @@ use Rattle.identity_doc.specs.declared.signatures.SignatureLine.{SignatureLine}
 use Rattle.identity_doc.specs.Signatures.{AreSignatures, BeginsWithSignature, BreaksSignaturesAt, IsSignatureLine, signature_line_text, lines_text}
 use Rattle.identity_doc.specs.SignatureReaders.{HasReadSignatures, KeyMayFollow}
 use Rattle.identity_doc.proofs.SignatureFronts.{one_line}
-use Rattle.identity_doc.proofs.SignatureOrder.{rising_last, rising_push}
+use Rattle.rad_base.specs.Order.{nid_cmp}
+use Rattle.rad_base.proofs.Rising.{rises_last, rises_more}
+use Rattle.identity_doc.specs.Signatures.{key_in}
 
 lines_text-append : (xs ys : List SignatureLine) → lines_text (xs ++ ys) ≡ lines_text xs ++ lines_text ys
 lines_text-append [] ys = refl
@@ -24,7 +26,7 @@ pub read_more : (bytes rest behind : List ℕ) (lines : List SignatureLine) (lin
 read_more bytes rest behind lines line r b may = record {
   good = record {
     formed = All-push IsSignatureLine lines line r.good.formed b.good;
-    rising = rising_push lines line r.good.rising may;
+    rising = rises_more key_in nid_cmp lines line r.good.rising may;
   };
   text = r.text ∙ ap (λ (l : List ℕ). lines_text lines ++ l) b.text
       ∙ sym (ap (λ (l : List ℕ). l ++ behind) (lines_text-append lines (line ∷ [])) ∙ regroup (lines_text lines) (signature_line_text line) behind);
@@ -61,6 +63,6 @@ breaks_order bytes rest behind lines line r more b none = record {
   more = more;
   broken = λ other after d are.
       let same = (one_line line other behind after rest b d).0 in
-      none (rw same (rising_last lines other are.rising));
+      none (rw same (rises_last key_in nid_cmp lines other are.rising));
   count = refl;
 }

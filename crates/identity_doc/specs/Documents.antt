@@ -167,10 +167,10 @@ abbrev pub IsRefused : Data → Contents → DocFault → Type 0
 IsRefused value keyring fault = checked value keyring ≡ Err fault
 
 -- the visibility lets a node see the repository, be it a delegate or not
-abbrev pub Allows : Visibility → Nid → Type 0
-Allows Public asker = Unit {0}
-Allows (Private nids) asker = Contains nids asker
+abbrev pub IsOpenTo : Visibility → Nid → Type 0
+IsOpenTo Public asker = Unit {0}
+IsOpenTo (Private nids) asker = Contains nids asker
 
 -- a node sees the repository: it is public, or the node is a delegate or allowed
 abbrev pub Sees : Doc → Nid → Type 0
-Sees doc asker = Contains doc.delegates asker ⊎ Allows doc.visibility asker
+Sees doc asker = Contains doc.delegates asker ⊎ IsOpenTo doc.visibility asker

@@ -1,9 +1,9 @@
 -- The signatures beside an identity document: lines of a key and its signature.
 use Rattle.std.specs.Prelude.{◌≡◌, ℕ, ◌+◌, List, [], ◌∷◌, ◌++◌, length}
 use Rattle.std.specs.List.{All}
-use Rattle.std.specs.declared.cmp.Ordering.TheVariants.{Less}
 use Rattle.hex.specs.Hex.{encode_lower}
-use Rattle.rad_base.specs.Order.{nid_cmp}
+use Rattle.rad_base.specs.Order.{RisesBy, nid_cmp}
+use Rattle.rad_base.specs.declared.names.Nid.{Nid}
 use Rattle.rad_base.specs.Sizes.{IsNid, IsSig}
 use Rattle.identity_doc.specs.declared.signatures.SignatureLine.{SignatureLine}
 
@@ -21,11 +21,13 @@ abbrev pub lines_text : List SignatureLine → List ℕ
 lines_text [] = []
 lines_text (line ∷ lines) = signature_line_text line ++ 10 ∷ lines_text lines
 
+-- the key of a line
+abbrev pub key_in : SignatureLine → Nid
+key_in line = line.key
+
 -- each key is below the next
 abbrev pub AreRisingKeys : List SignatureLine → Type 0
-AreRisingKeys [] = Unit {0}
-AreRisingKeys (line ∷ []) = Unit {0}
-AreRisingKeys (line ∷ next ∷ lines) = (nid_cmp line.key next.key ≡ Less) × AreRisingKeys (next ∷ lines)
+AreRisingKeys lines = RisesBy key_in nid_cmp lines
 
 -- lines that make a blob
 pub record AreSignatureLines (lines : List SignatureLine) : Type 0 where

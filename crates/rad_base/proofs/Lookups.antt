@@ -6,11 +6,12 @@ use Rattle.std.specs.declared.cmp.Ordering.TheVariants.{Less}
 use Rattle.rad_base.specs.declared.names.Nid.{Nid}
 use Rattle.rad_base.specs.declared.names.Oid.{Oid}
 use Rattle.rad_base.specs.Lists.{AllDiffer}
-use Rattle.rad_base.specs.Order.{IsAbove, IsRising, commit_of, nid_cmp}
+use Rattle.rad_base.specs.Order.{IsAbove, IsRising, commit_of, nid_cmp, node_of}
 use Rattle.rad_base.proofs.EachItem.{others_from}
 use Rattle.rad_base.proofs.Members.{contains_at, contains_cases, contains_head, contains_nothing, contains_tail, map_from}
 use Rattle.rad_base.proofs.NameOrder.{apart, equal_from_is_eq, equals_itself, nid_exact, nid_total, not_below_itself}
 use Rattle.rad_base.proofs.Options.{some_is}
+use Rattle.rad_base.proofs.Rising.{rises_below, rises_tail}
 
 -- what is found is among the remotes
 pub found_among : (xs : List (Nid × Oid)) (node : Nid) (commit : Oid) → commit_of xs node ≡ Some commit → Contains xs (node, commit)
@@ -25,19 +26,9 @@ found_among (x ∷ xs) node commit e = by_first (λ (h : commit_of xs node ≡ S
         subst (Contains (x ∷ xs)) whole (contains_head x xs)
     by_first later false h = contains_tail x xs (node, commit) (later (sym (ap (λ (b : Bool). cond b (Some x.1) (commit_of xs node)) h) ∙ e))
 
--- the remotes behind the first
-pub rising_tail : (x : Nid × Oid) (xs : List (Nid × Oid)) → IsRising (x ∷ xs) → IsRising xs
-rising_tail x [] r = tt
-rising_tail x (y ∷ ys) r = r.1
-
 -- the first is below all others
 pub below_all : (x : Nid × Oid) (xs : List (Nid × Oid)) → IsRising (x ∷ xs) → (y : Nid × Oid) → Contains xs y → nid_cmp x.0 y.0 ≡ Less
-below_all x [] r y c = absurd (contains_nothing y c)
-below_all x (z ∷ zs) r y c =
-    ⊎_elim
-    (λ e. subst (λ (w : Nid × Oid). nid_cmp x.0 w.0 ≡ Less) e r.0)
-    (λ d. nid_total.trans x.0 z.0 y.0 r.0 (below_all z zs r.1 y d))
-    (contains_cases z zs y c)
+below_all x xs rising = rises_below node_of nid_cmp nid_total x xs rising
 
 -- keys of which one is below the other are two
 below_differs : (a b : Nid) → nid_cmp a b ≡ Less → a ≡ b → ⊥
@@ -54,19 +45,15 @@ among_found (x ∷ xs) node commit r c =
     (λ e. subst (λ (y : Nid × Oid). commit_of (x ∷ xs) y.0 ≡ Some y.1) e (first_found x xs))
     (λ d. ap (λ (b : Bool). cond b (Some x.1) (commit_of xs node))
     (apart nid_cmp nid_exact node x.0 (below_differs x.0 node (below_all x xs r (node, commit) d)))
-    ∙ among_found xs node commit (rising_tail x xs r) d)
+    ∙ among_found xs node commit (rises_tail node_of nid_cmp x xs r) d)
     (contains_cases x xs (node, commit) c)
-
--- the key of a remote
-abbrev pub node_of : Nid × Oid → Nid
-node_of remote = remote.0
 
 -- the keys of rising remotes differ
 pub nodes_differ : (xs : List (Nid × Oid)) → IsRising xs → AllDiffer (map node_of xs)
 nodes_differ [] r = tt
 nodes_differ (x ∷ xs) r = (
   others_from x.0 (map node_of xs) (λ c. let p = map_from node_of xs x.0 c in below_differs x.0 p.0.0 (below_all x xs r p.0 p.1) (sym p.2)),
-  nodes_differ xs (rising_tail x xs r),
+  nodes_differ xs (rises_tail node_of nid_cmp x xs r),
 )
 
 -- what stands before a place is below what stands there
@@ -76,7 +63,7 @@ take_below (z ∷ zs) zero x y r at h = absurd (contains_nothing x h)
 take_below (z ∷ zs) (suc i) x y r at h =
     ⊎_elim
     (λ e. subst (λ (w : Nid × Oid). nid_cmp w.0 y.0 ≡ Less) e (below_all z zs r y (contains_at zs i y at)))
-    (λ d. take_below zs i x y (rising_tail z zs r) at d)
+    (λ d. take_below zs i x y (rises_tail node_of nid_cmp z zs r) at d)
     (contains_cases z (take i zs) x h)
 
 -- a key above all is above the last

@@ -1,33 +1,18 @@
 -- What a binary search by key finds among rising remotes.
-use Rattle.std.proofs.Common.{◌≡◌, ℕ, ◌+◌, ◌<◌, ◌≤◌, List, length, get_or, take, Option, None, Some, refl, sym, ap, subst, ⊎_elim, ◌∙◌, arith}
-use Rattle.std.specs.Prelude.{Contains}
+use Rattle.std.proofs.Common.{◌≡◌, ℕ, ◌<◌, ◌≤◌, List, length, get_or, Option, None, Some, refl, ap, subst, ⊎_elim, ◌∙◌, arith}
 use Rattle.std.specs.List.Sorted.{IsNonDecreasingBy, IsPartitionPoint}
-use Rattle.std.specs.Ordering.{is_lt, ordering_index, ordering_reverse}
+use Rattle.std.specs.Ordering.{ordering_index, ordering_reverse}
 use Rattle.std.specs.declared.cmp.Ordering.{Ordering}
 use Rattle.std.specs.declared.cmp.Ordering.TheVariants.{Less, Equal, Greater}
 use Rattle.std.proofs.lemmas.Bool.{cases_lt}
-use Rattle.std.proofs.lemmas.List.{take_more}
-use Rattle.std.proofs.lemmas.List.Elements.{Contains-push}
-use Rattle.std.proofs.lemmas.List.Sorted.{searchable_from_sorted}
 use Rattle.std.proofs.lemmas.Option.{slice_get-get_or}
 use Rattle.rad_base.specs.declared.names.Nid.{Nid}
 use Rattle.rad_base.specs.declared.names.Oid.{Oid}
-use Rattle.rad_base.specs.Order.{IsRising, commit_of, nid_cmp}
+use Rattle.rad_base.specs.Order.{IsRising, commit_of, nid_cmp, node_of}
 use Rattle.rad_base.proofs.Members.{contains_at}
 use Rattle.rad_base.proofs.NameOrder.{nid_exact, nid_total, not_below_itself}
-use Rattle.rad_base.proofs.Lookups.{among_found, found_among, take_below}
-
--- each remote is below the next
-next_above : (xs : List (Nid × Oid)) → IsRising xs → (k : ℕ) (d : Nid × Oid) → k + 1 < length xs → nid_cmp (get_or xs k d).0 (get_or xs (k + 1) d).0 ≡ Less
-next_above xs r k d inside =
-    take_below xs (k + 1) (get_or xs k d) (get_or xs (k + 1) d) r (slice_get-get_or xs (k + 1) d inside)
-    (subst (λ (l : List (Nid × Oid)). Contains l (get_or xs k d)) (sym (take_more xs k d (omega arith))) (Contains-push (take k xs) (get_or xs k d)))
-
--- so the comparisons with a key rise along them
-comparisons_rise : (xs : List (Nid × Oid)) (node : Nid) → IsRising xs → IsNonDecreasingBy (λ y. ordering_index (nid_cmp y.0 node)) xs
-comparisons_rise xs node r =
-    searchable_from_sorted nid_total (λ y. y.0) xs node
-    (λ k d low high. ap is_lt (nid_total.antisymm (get_or xs (k + 1) d).0 (get_or xs k d).0 ∙ ap ordering_reverse (next_above xs r k d high)))
+use Rattle.rad_base.proofs.Lookups.{among_found, found_among}
+use Rattle.rad_base.proofs.Rising.{rises_searched}
 
 -- a place of an equal key is that of the node's remote
 pub searched_found : (xs : List (Nid × Oid)) (node : Nid) (i : ℕ) (d : Nid × Oid) → IsRising xs → i < length xs → nid_cmp (get_or xs i d).0 node ≡ Equal
@@ -55,7 +40,7 @@ searched_none xs node i r parts = by_found (commit_of xs node) refl
         let c = found_among xs node commit e in
         let x = get_or xs c.0 (node, commit) in
         let same : x.0 ≡ node = ap (λ (y : Nid × Oid). y.0) c.2 in
-        let at = parts (comparisons_rise xs node r) in
+        let at = parts (rises_searched node_of nid_cmp nid_total xs node r) in
         absurd (⊎_elim
         (λ (below : c.0 < i). apart_here node x same Less (at.0 c.0 (node, commit) (omega arith) below) (λ h. cc h))
         (λ (above : i ≤ c.0). apart_here node x same Greater (at.1 c.0 (node, commit) above c.1) (λ h. cc h))

@@ -7,7 +7,7 @@ use Rattle.rad_base.specs.declared.names.Oid.{Oid}
 use Rattle.rad_base.specs.declared.names.Rid.{Rid}
 use Rattle.rad_node.specs.declared.part.Part.{Part}
 use Rattle.rad_node.specs.Bundle.{IsObject, Object, object_text, objects_text}
-use Rattle.rad_node.specs.Entries.{contents_text, entries_of, install_text, put_text}
+use Rattle.rad_node.specs.Entries.{contents_text, form_entries, install_text, put_text}
 use Rattle.rad_node.specs.Form.{FormOne, IsForm}
 use Rattle.rad_node.specs.Numbers.{in_four_bytes}
 use Rattle.rad_node.specs.Parts.{objects, seen}
@@ -80,7 +80,7 @@ all_four P a b c d pa pb pc pd (suc (suc (suc zero))) z h = pd
 all_four P a b c d pa pb pc pd (suc (suc (suc (suc k)))) z h = absurd (omega arith)
 
 -- each entry of form one is small
-pub entries_small : (form : FormOne) → IsForm form → All (λ body. length body ≤ 34000000) (entries_of form)
+pub entries_small : (form : FormOne) → IsForm form → All (λ body. length body ≤ 34000000) (form_entries form)
 entries_small form h =
     let sizes = sections_size form h in
     let is = h.is.bundle.is in

@@ -22,8 +22,8 @@ install_text rid identity remotes =
     2 ∷ (rid.0.0 ++ (identity.0 ++ (in_two_bytes (length remotes) ++ remotes_text remotes)))
 
 -- the bodies that the import of form one appends: each section's objects in their order, then the install
-abbrev pub entries_of : FormOne → List (List ℕ)
-entries_of form =
+abbrev pub form_entries : FormOne → List (List ℕ)
+form_entries form =
     put_text form.bundle.rid form.bundle.identity_objects
     ∷ put_text form.bundle.rid form.bundle.refs_objects
     ∷ put_text form.bundle.rid form.bundle.tips_objects

@@ -1,6 +1,6 @@
 -- What an import says and leaves by its status.
 use Rattle.std.specs.Prelude.{◌≡◌, ℕ, List, [], Option, String, IfSome}
-use Rattle.rad_node.specs.Entries.{entries_of}
+use Rattle.rad_node.specs.Entries.{form_entries}
 use Rattle.rad_node.specs.Form.{FormOne, IsFormOne}
 use Rattle.rad_node.specs.Report.{report_of}
 use Rattle.rad_outside.specs.Disks.{Within}
@@ -66,7 +66,7 @@ pub record Entered
   pub bytes : List ℕ
   pub is : IsFormOne keyring bytes form
   pub told : IfSome bundle (λ known. bytes ≡ known)
-  pub entries : grows (entries_of form)
+  pub entries : grows (form_entries form)
   pub report : gave (report_of form)
 
 -- The words were an import, and a keyring file and a bundle were form one: those of the sources, where they are
@@ -84,7 +84,7 @@ pub record Imported
   pub keyring_told : IfSome keyring (λ known. file ≡ known)
   pub bundle_told : IfSome bundle (λ known. bytes ≡ known)
   pub empty : IfSome store (HasBodies [])
-  pub entries : IfSome store (λ _. Within images (HasBodies (entries_of form)))
+  pub entries : IfSome store (λ _. Within images (HasBodies (form_entries form)))
   pub report : gave (report_of form)
 
 -- the words, the keyring file, the bundle and the store, all of which are told, are not form one

@@ -9,14 +9,14 @@ use Rattle.rad_node.specs.declared.store.StoreFault.{StoreFault}
 use Rattle.rad_node.specs.declared.store.StoreFault.TheVariants.{DiskFault, NotEmpty}
 
 -- the disk that a refusal gives back
-abbrev pub disk_of : {D : Type 0} → StoreFault D → D
-disk_of (DiskFault disk) = disk
-disk_of (NotEmpty disk) = disk
+abbrev pub disk_in_store_fault : {D : Type 0} → StoreFault D → D
+disk_in_store_fault (DiskFault disk) = disk
+disk_in_store_fault (NotEmpty disk) = disk
 
 -- the disk that comes back, in the journal or in the refusal
-abbrev pub opened_disk : {D : Type 0} → Result (Journal D) (StoreFault D) → D
-opened_disk (Ok journal) = journal.disk
-opened_disk (Err fault) = disk_of fault
+abbrev pub disk_of_store : {D : Type 0} → Result (Journal D) (StoreFault D) → D
+disk_of_store (Ok journal) = journal.disk
+disk_of_store (Err fault) = disk_in_store_fault fault
 
 -- a disk fault comes only where the count rose
 abbrev pub HasStoreCause : {D : Type 0} → ℕ → (D → ℕ) → StoreFault D → Type 0

@@ -1,7 +1,7 @@
 -- The work of an import.
 use Rattle.std.specs.Prelude.{◌≡◌, ◌≤◌, ℕ, List, length}
 use Rattle.std.specs.List.{All}
-use Rattle.rad_node.specs.Entries.{entries_of}
+use Rattle.rad_node.specs.Entries.{form_entries}
 use Rattle.rad_node.specs.Form.{FormOne, IsFormOne}
 use Rattle.rad_node.specs.Report.{report_of}
 use Rattle.rad_node.specs.declared.work.Work.{Work}
@@ -19,6 +19,6 @@ pub record AreFour (bodies : List (List ℕ)) : Type 0 where
 pub record IsWork (keyring bundle : List ℕ) (work : Work) : Type 0 where
   pub form : FormOne
   pub is : IsFormOne keyring bundle form
-  pub entries : work.entries.items ≡ entries_of form
+  pub entries : work.entries.items ≡ form_entries form
   pub four : AreFour work.entries.items
   pub report : work.report ≡ report_of form

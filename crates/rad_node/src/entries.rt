@@ -2,7 +2,7 @@
 ghost use Rattle.std.specs.Prelude.{◌≡◌, ◌≤◌, ◌++◌, length, IfOk, OnOk, ◌∷◌, []};
 ghost use Rattle.std.specs.List.{All, AllByRecursion};
 ghost use Rattle.rad_node.specs.Bundle.{IsObject, kind_byte, object_text};
-ghost use Rattle.rad_node.specs.Entries.{entries_of, install_text, put_text};
+ghost use Rattle.rad_node.specs.Entries.{form_entries, install_text, put_text};
 ghost use Rattle.rad_node.specs.Form.{IsForm};
 ghost use Rattle.rad_node.specs.Numbers.{in_four_bytes};
 ghost use Rattle.rad_node.specs.Parts.{form_one, objects, seen};
@@ -87,7 +87,7 @@ impl Form<'_> {
     /// of the journal.
     pub(crate) fn entries(&self, alloc: Global) -> Result<Vec<Bytes>, NoMemory>
         requires { IsForm (form_one self.now) }
-        ensures bodies { IfOk result (λ entries. entries.items ≡ entries_of (form_one self.now)) }
+        ensures bodies { IfOk result (λ entries. entries.items ≡ form_entries (form_one self.now)) }
         ensures sizes { IfOk result (λ entries. All
             (λ body. length body ≤ 34000000) entries.items) }
     {
@@ -98,7 +98,7 @@ impl Form<'_> {
     // The bodies, in their order.
     fn bodies(&self, alloc: Global) -> Result<Vec<Bytes>, NoMemory>
         requires { IsForm (form_one self.now) }
-        ensures { IfOk result (λ bodies. bodies.items ≡ entries_of (form_one self.now)) }
+        ensures { IfOk result (λ bodies. bodies.items ≡ form_entries (form_one self.now)) }
     {
         let bundle = &self.bundle;
         let identity = put_of(alloc, &bundle.rid, &bundle.identity_parts)?;

@@ -4,7 +4,7 @@ ghost use Rattle.rad_outside.specs.Causes.{HasCause};
 ghost use Rattle.ref_journal.specs.Holds.{OnlyReads};
 ghost use Rattle.ref_journal.specs.Moments.{HasBodies};
 ghost use Rattle.rad_node.specs.Store.{Adds, Grows, HasAll, HasStoreCause, IsNotEmpty};
-ghost use Rattle.rad_node.specs.Store.{opened_disk};
+ghost use Rattle.rad_node.specs.Store.{disk_of_store};
 ghost use Rattle.rad_node.specs.Works.{AreSmall};
 
 use rad_outside::{Disk, Failed};
@@ -26,7 +26,7 @@ pub(crate) enum StoreFault<D> {
 /// where the store is no journal, a damaged one or one with entries. Either gives the disk back.
 pub(crate) fn open_empty<D: Disk>(disk: D) -> Result<Journal<D>, StoreFault<D>>
     ensures reads { OnlyReads D.loan D.faults D.reads_as D.images D.moment D.images_since
-        disk (opened_disk result) }
+        disk (disk_of_store result) }
     ensures cause { IfErr result (HasStoreCause (D.faults disk) D.faults) }
     ensures place { IfOk result (λ journal. journal.end ≡ 8) }
     ensures empty { IfOk result (λ journal.

@@ -1,7 +1,7 @@
 // Trees of one entry and of two.
 ghost use Rattle.std.specs.Prelude.{◌≡◌, ◌↔◌, ◌∷◌, [], IsTrue, IfSome, IfNone, codes};
 ghost use Rattle.git_object.specs.Grammar.{Entry, SpellsTree};
-ghost use Rattle.git_object.specs.Views.{entry_of};
+ghost use Rattle.git_object.specs.Views.{tree_entry_of};
 ghost use Rattle.rad_node.specs.Form.{HasOnlyFile, entry};
 
 use git_object::{Mode, TreeEntry, read_tree};
@@ -9,7 +9,7 @@ use rad_base::Oid;
 
 // The entry of a tree that has just one. None where the content is no such tree.
 fn only_entry(content: &[u8]) -> Option<TreeEntry<'_>>
-    ensures found { IfSome result (λ found. SpellsTree (entry_of found ∷ []) content.now) }
+    ensures found { IfSome result (λ found. SpellsTree (tree_entry_of found ∷ []) content.now) }
     ensures none { IfNone result ((a : Entry) → SpellsTree (a ∷ []) content.now → ⊥) }
 {
     let Ok(mut entries) = read_tree(content) else {
@@ -24,7 +24,7 @@ fn only_entry(content: &[u8]) -> Option<TreeEntry<'_>>
 
 // The two entries of a tree that has just two. None where the content is no such tree.
 fn two_entries(content: &[u8]) -> Option<(TreeEntry<'_>, TreeEntry<'_>)>
-    ensures found { IfSome result (λ x. SpellsTree (entry_of x.0 ∷ entry_of x.1
+    ensures found { IfSome result (λ x. SpellsTree (tree_entry_of x.0 ∷ tree_entry_of x.1
         ∷ []) content.now) }
     ensures none { IfNone result ((a b : Entry) → SpellsTree (a ∷ b ∷ []) content.now → ⊥) }
 {
@@ -41,7 +41,7 @@ fn two_entries(content: &[u8]) -> Option<(TreeEntry<'_>, TreeEntry<'_>)>
 
 // Whether an entry is this one.
 fn is_entry(found: &TreeEntry<'_>, mode: Mode, name: &[u8], oid: &Oid) -> bool
-    ensures { IsTrue result ↔ (entry_of found.now ≡ entry mode name.now oid.now) }
+    ensures { IsTrue result ↔ (tree_entry_of found.now ≡ entry mode name.now oid.now) }
 {
     found.mode == mode && found.name == name && found.oid == *oid
 }

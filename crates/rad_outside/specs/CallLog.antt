@@ -21,6 +21,6 @@ abbrev pub since_of : CallLog → ℕ → List ℕ → Type 0
 since_of log = IsImageSince log.first.items log.calls.items
 
 -- the time that a call takes
-abbrev pub Passes : CallLog → CallLog → Type 0
-Passes old new =
+abbrev pub LogElapses : CallLog → CallLog → Type 0
+LogElapses old new =
     Elapses (moment_of old) (moment_of new) (since_of old) (since_of new) (IsImage (state_of new))

@@ -21,7 +21,7 @@ impl CallLog {
     ghost use Rattle.rad_outside.specs.MemoryDisk.{new_state, synced, written, IsImage};
     ghost use Rattle.rad_outside.specs.Disks.{Follows, Torn, Within};
     ghost use Rattle.rad_outside.specs.Crashes.{filled_image, state_at};
-    ghost use Rattle.rad_outside.specs.CallLog.{Passes, moment_after, moment_of, state_of};
+    ghost use Rattle.rad_outside.specs.CallLog.{LogElapses, moment_after, moment_of, state_of};
 
     // No calls on these bytes.
     pub(crate) fn new(alloc: Global, first: Vec<u8>) -> Self
@@ -56,7 +56,7 @@ impl CallLog {
     pub(crate) fn look(&mut self) -> Result<(), AllocError>
         ensures same { state_of self.new ≡ state_of self.old }
         ensures moment { moment_of self.new ≡ moment_after (is_ok result) self.old }
-        ensures time { Passes self.old self.new }
+        ensures time { LogElapses self.old self.new }
     {
         self.calls.push(Call::Look)?;
         Ok(())
@@ -72,7 +72,7 @@ impl CallLog {
         ensures images { Follows (Torn place (length from.now))
             (IsImage (state_of self.old)) (IsImage (state_of self.new)) }
         ensures moment { moment_of self.new ≡ moment_after (is_ok result) self.old }
-        ensures time { Passes self.old self.new }
+        ensures time { LogElapses self.old self.new }
     {
         let copy = copy_of(self.alloc, from)?;
         let next = write_over(self.alloc, self.bytes(), place, part_of(from, failed))?;
@@ -87,7 +87,7 @@ impl CallLog {
         ensures within { Within (IsImage (state_of self.new)) (IsImage (state_of self.old)) }
         ensures err { OnErr result (state_of self.new ≡ state_of self.old) }
         ensures moment { moment_of self.new ≡ moment_after (is_ok result) self.old }
-        ensures time { Passes self.old self.new }
+        ensures time { LogElapses self.old self.new }
     {
         self.calls.push(Call::Sync(failed))?;
         Ok(())

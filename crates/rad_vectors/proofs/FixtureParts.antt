@@ -9,7 +9,7 @@ use Rattle.rad_base.specs.declared.names.Oid.{Oid}
 use Rattle.keyring.specs.Lines.{KeyringLine, file_text, keyring_line_text, named}
 use Rattle.fetch_wire.specs.Sections.{Object}
 use Rattle.rad_vectors.specs.Chains.{chain_commits, number_commit, tip_of}
-use Rattle.rad_vectors.specs.Fixture.{branch_lines, branch_name, first_refs, fixture_document, fixture_names, fixture_of, fixture_signers, fixture_tips, fixture_with, key_of, next_to_last}
+use Rattle.rad_vectors.specs.Fixture.{branch_lines, branch_name, first_refs, fixture_document, fixture_names, fixture_of, fixture_signers, fixture_tips, fixture_with, key_filled_with, next_to_last}
 use Rattle.rad_vectors.specs.Generated.{IsMade, master_line}
 use Rattle.rad_vectors.specs.Objects.{object_name}
 use Rattle.rad_vectors.specs.Repositories.{IsBundleOf, Signer, keyring_text, ref_line}
@@ -102,13 +102,13 @@ lines_text (line ∷ lines) =
 
 -- the names and the lines behind them
 pub named_lines : (none one two three whole accepts : List ℕ) → none ≡ []
-    → one ≡ none ++ name_line (codes "did:key:z6MkOne") (key_of 17) → two ≡ one ++ name_line (codes "did:key:z6MkTwo") (key_of 34)
-    → three ≡ two ++ name_line (codes "did:key:z6MkThree") (key_of 51) → whole ≡ three ++ accepts
+    → one ≡ none ++ name_line (codes "did:key:z6MkOne") (key_filled_with 17) → two ≡ one ++ name_line (codes "did:key:z6MkTwo") (key_filled_with 34)
+    → three ≡ two ++ name_line (codes "did:key:z6MkThree") (key_filled_with 51) → whole ≡ three ++ accepts
     → whole ≡ file_text (map (λ (pair : List ℕ × Nid). named pair.0 pair.1) fixture_names) ++ accepts
 named_lines none one two three whole accepts e0 e1 e2 e3 e4 =
-    let a : List ℕ = name_line (codes "did:key:z6MkOne") (key_of 17) in
-    let b : List ℕ = name_line (codes "did:key:z6MkTwo") (key_of 34) in
-    let d : List ℕ = name_line (codes "did:key:z6MkThree") (key_of 51) in
+    let a : List ℕ = name_line (codes "did:key:z6MkOne") (key_filled_with 17) in
+    let b : List ℕ = name_line (codes "did:key:z6MkTwo") (key_filled_with 34) in
+    let d : List ℕ = name_line (codes "did:key:z6MkThree") (key_filled_with 51) in
     let first : one ≡ a = e1 ∙ ap (λ (xs : List ℕ). xs ++ a) e0 in
     let all : three ≡ (a ++ b) ++ d = e3 ∙ ap (λ (xs : List ℕ). xs ++ d) (e2 ∙ ap (λ (xs : List ℕ). xs ++ b) first) in
     e4 ∙ (ap (λ (xs : List ℕ). xs ++ accepts) all ∙ (four_parts a b d accepts

@@ -11,8 +11,8 @@ use Rattle.rad_vectors.specs.Objects.{object_name}
 use Rattle.rad_vectors.specs.Repositories.{Repository, Signer, identity_commit, identity_objects, ref_line}
 
 -- the key of 32 equal bytes
-abbrev pub key_of : ℕ → Nid
-key_of byte = record { 0 = replicate 32 byte }
+abbrev pub key_filled_with : ℕ → Nid
+key_filled_with byte = record { 0 = replicate 32 byte }
 
 -- the document: of three delegates two agree
 abbrev pub fixture_document : List ℕ
@@ -21,7 +21,7 @@ fixture_document = codes "{\"delegates\":[\"did:key:z6MkOne\",\"did:key:z6MkTwo\
 -- what the keyring calls them
 abbrev pub fixture_names : List (List ℕ × Nid)
 fixture_names =
-    (codes "did:key:z6MkOne", key_of 17) ∷ (codes "did:key:z6MkTwo", key_of 34) ∷ (codes "did:key:z6MkThree", key_of 51) ∷ []
+    (codes "did:key:z6MkOne", key_filled_with 17) ∷ (codes "did:key:z6MkTwo", key_filled_with 34) ∷ (codes "did:key:z6MkThree", key_filled_with 51) ∷ []
 
 -- the submodule of the last commit: 20 bytes 77
 abbrev pub fixture_submodule : Option Oid
@@ -63,7 +63,7 @@ first_refs m = first_lines (take 17 (chain_commits m)) (object_name (last_commit
 -- the delegates with the texts of their refs
 abbrev pub fixture_signers : List ℕ → List ℕ → List ℕ → List Signer
 fixture_signers one two three =
-    record { key = key_of 17; refs = one } ∷ record { key = key_of 34; refs = two } ∷ record { key = key_of 51; refs = three } ∷ []
+    record { key = key_filled_with 17; refs = one } ∷ record { key = key_filled_with 34; refs = two } ∷ record { key = key_filled_with 51; refs = three } ∷ []
 
 -- the commits and the tag
 abbrev pub fixture_history : ℕ → List Object

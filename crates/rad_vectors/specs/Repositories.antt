@@ -85,12 +85,12 @@ pub record IsBundleOf (repository : Repository) (bytes : List ℕ) : Type 0 wher
   })
 
 -- the accept line of a delegate
-abbrev pub accept_of : Signer → KeyringLine
-accept_of signer = accepted (record { key = signer.key; digest = record { 0 = sha256 signer.refs }; sig = record { 0 = signature_of signer.key } })
+abbrev pub accept_line_of : Signer → KeyringLine
+accept_line_of signer = accepted (record { key = signer.key; digest = record { 0 = sha256 signer.refs }; sig = record { 0 = signature_of signer.key } })
 
 -- the keyring: a line for each name, and one for each delegate
 abbrev pub keyring_text : List (List ℕ × Nid) → List Signer → List ℕ
-keyring_text names signers = file_text (map (λ pair. named pair.0 pair.1) names) ++ file_text (map accept_of signers)
+keyring_text names signers = file_text (map (λ pair. named pair.0 pair.1) names) ++ file_text (map accept_line_of signers)
 
 -- a line of refs: the name of a commit in digits, a space, the ref, a line feed
 abbrev pub ref_line : Oid → List ℕ → List ℕ

@@ -2,7 +2,7 @@
 ghost use Rattle.std.specs.Prelude.{◌≡◌, ◌++◌, ◌∷◌, [], IfOk, OnOk, map};
 ghost use Rattle.hex.specs.Hex.{encode_lower};
 ghost use Rattle.keyring.specs.Lines.{file_text, keyring_line_text, named};
-ghost use Rattle.rad_vectors.specs.Repositories.{accept_of};
+ghost use Rattle.rad_vectors.specs.Repositories.{accept_line_of};
 ghost use Rattle.rad_vectors.specs.Signers.{signer_of};
 
 use crate::delegate::Delegate;
@@ -41,7 +41,7 @@ pub(crate) fn push_name(
 // Writes the line that accepts a delegate's refs.
 fn push_accept(bytes: &mut Vec<u8>, alloc: Global, delegate: &Delegate) -> Result<(), NoMemory>
     ensures { OnOk result (bytes.new.items ≡ bytes.old.items
-        ++ (keyring_line_text (accept_of (signer_of delegate.now)) ++ 10 ∷ [])) }
+        ++ (keyring_line_text (accept_line_of (signer_of delegate.now)) ++ 10 ∷ [])) }
 {
     let digest: [u8; 32] = Sha256::digest(delegate.refs.as_slice());
     let signature = signature(alloc, &delegate.key)?;
@@ -62,7 +62,7 @@ pub(crate) fn push_accepts(
     delegates: &[Delegate],
 ) -> Result<(), NoMemory>
     ensures { OnOk result (bytes.new.items ≡ bytes.old.items
-        ++ file_text (map accept_of (map signer_of delegates.now))) }
+        ++ file_text (map accept_line_of (map signer_of delegates.now))) }
 {
     'delegates: for delegate in delegates {
         push_accept(bytes, alloc, delegate)?;

@@ -10,14 +10,14 @@ use Rattle.ref_journal.specs.declared.faults.MakeFault.{MakeFault}
 use Rattle.ref_journal.specs.declared.faults.MakeFault.TheVariants.{DiskFault, AlreadyMade}
 
 -- the disk that a refusal gives back
-abbrev pub disk_of : {D : Type 0} → MakeFault D → D
-disk_of (DiskFault disk) = disk
-disk_of (AlreadyMade disk) = disk
+abbrev pub disk_in_make_fault : {D : Type 0} → MakeFault D → D
+disk_in_make_fault (DiskFault disk) = disk
+disk_in_make_fault (AlreadyMade disk) = disk
 
 -- the disk that comes back, in the journal or in the refusal
 abbrev pub made_disk : {D : Type 0} → Result (Journal D) (MakeFault D) → D
 made_disk (Ok journal) = journal.disk
-made_disk (Err fault) = disk_of fault
+made_disk (Err fault) = disk_in_make_fault fault
 
 -- a disk fault comes only where the count rose
 abbrev pub HasMakeCause : {D : Type 0} → ℕ → (D → ℕ) → MakeFault D → Type 0

@@ -1,8 +1,8 @@
 -- Two readings of the same bytes.
 use Rattle.std.proofs.Common.{◌≡◌, ℕ, ◌+◌, ◌<◌, ◌≤◌, List, [], ◌∷◌, ◌++◌, length, Option, None, Some, Result, Ok, Err, refl, sym, ap, subst, ◌∙◌, arith, append_assoc}
 use Rattle.std.specs.List.{AllByRecursion}
-use Rattle.git_object.specs.Grammar.{IsBelow}
-use Rattle.signed_refs.specs.Lines.{IsRefLine, Line, RiseFrom, SpellsRefs, SpellsTo, last_from, ref_line_text, refs_text}
+use Rattle.rad_base.specs.Order.{IsBelow, RiseFrom, last_from}
+use Rattle.signed_refs.specs.Lines.{IsRefLine, Line, SpellsRefs, SpellsTo, ref_line_text, refs_text, name_in}
 use Rattle.signed_refs.specs.Readings.{BreaksRefsAt, Continues, HasTooMany, ReadsRefs}
 use Rattle.signed_refs.specs.declared.fault.RefsFault.{RefsFault}
 use Rattle.signed_refs.specs.declared.fault.RefsFault.TheVariants.{BadLine, NoMemory, TooMany}
@@ -14,7 +14,7 @@ pub record GoesOn (before : Option (List ℕ)) (lines : List Line) (rest : List 
   pub line : Line
   pub behind : List ℕ
   pub good : IsRefLine line
-  pub above : IsBelow (last_from before lines) line.0
+  pub above : IsBelow (last_from name_in before lines) line.0
   pub text : rest ≡ ref_line_text line ++ behind
 
 -- both readings are one, or one is shorter and goes on
@@ -43,8 +43,8 @@ begins_more before y others rest more good above e = record {
   text = e ∙ append_assoc (ref_line_text y) (refs_text others) more;
 }
 
-compare : (before : Option (List ℕ)) (lines others : List Line) (rest more : List ℕ) → AllByRecursion IsRefLine lines → RiseFrom before lines
-    → AllByRecursion IsRefLine others → RiseFrom before others → refs_text lines ++ rest ≡ refs_text others ++ more
+compare : (before : Option (List ℕ)) (lines others : List Line) (rest more : List ℕ) → AllByRecursion IsRefLine lines → RiseFrom name_in before lines
+    → AllByRecursion IsRefLine others → RiseFrom name_in before others → refs_text lines ++ rest ≡ refs_text others ++ more
     → Compared before lines rest others more
 compare before [] [] rest more each rising all up e = same refl e
 compare before [] (y ∷ others) rest more each rising all up e = less (omega arith) (begins_more before y others rest more all.0 up.0 e)
@@ -54,7 +54,7 @@ compare before (x ∷ lines) (y ∷ others) rest more each rising all up e =
     let one = one_line x y (refs_text lines ++ rest) (refs_text others ++ more) each.0 all.0
     (sym (append_assoc (ref_line_text x) (refs_text lines) rest) ∙ e ∙ append_assoc (ref_line_text y) (refs_text others) more) in
     let tail = compare (Some x.0) lines others rest more each.1 rising.1 all.1
-    (subst (λ (l : Line). RiseFrom (Some l.0) others) (sym one.0) up.1) one.1 in
+    (subst (λ (l : Line). RiseFrom name_in (Some l.0) others) (sym one.0) up.1) one.1 in
     subst (λ (l : Line). Compared before (x ∷ lines) rest (l ∷ others) more) one.0 (one_longer before x lines rest others more tail)
 
 -- two readings from the first byte on

@@ -12,10 +12,11 @@ use Rattle.rad_base.specs.declared.names.Oid.{Oid}
 use Rattle.rad_base.proofs.Members.{contains_cases, contains_nothing}
 use Rattle.rad_base.proofs.NameOrder.{not_below_itself}
 use Rattle.rad_base.proofs.Options.{some_is}
-use Rattle.signed_refs.specs.Lines.{Line, RiseFrom, last_from}
+use Rattle.rad_base.specs.Order.{RiseFrom, last_from}
+use Rattle.signed_refs.specs.Lines.{Line, name_in}
 
 -- every name of rising lines is above the name before them
-above_all : (name : List ℕ) (lines : List Line) (line : Line) → RiseFrom (Some name) lines → Contains lines line
+above_all : (name : List ℕ) (lines : List Line) (line : Line) → RiseFrom name_in (Some name) lines → Contains lines line
     → slice_cmp nat_cmp name line.0 ≡ Less
 above_all name [] line rising has = absurd (contains_nothing line has)
 above_all name (x ∷ lines) line rising has =
@@ -23,12 +24,12 @@ above_all name (x ∷ lines) line rising has =
     (λ later. nat_list_cmp_total.trans name x.0 line.0 rising.0 (above_all x.0 lines line rising.1 later))
     (contains_cases x lines line has)
 
-not_again : (x : Line) (lines : List Line) (name : List ℕ) (a b : Oid) → RiseFrom (Some x.0) lines → x ≡ (name, a) → Contains lines (name, b) → ⊥
+not_again : (x : Line) (lines : List Line) (name : List ℕ) (a b : Oid) → RiseFrom name_in (Some x.0) lines → x ≡ (name, a) → Contains lines (name, b) → ⊥
 not_again x lines name a b rising e has =
     not_below_itself name (subst (λ (n : List ℕ). slice_cmp nat_cmp n name ≡ Less) (ap (λ (l : Line). l.0) e) (above_all x.0 lines (name, b) rising has))
 
 -- a name stands with one object
-pub one_name : (before : Option (List ℕ)) (lines : List Line) (name : List ℕ) (a b : Oid) → RiseFrom before lines
+pub one_name : (before : Option (List ℕ)) (lines : List Line) (name : List ℕ) (a b : Oid) → RiseFrom name_in before lines
     → Contains lines (name, a) → Contains lines (name, b) → a ≡ b
 one_name before [] name a b rising p q = absurd (contains_nothing (name, a) p)
 one_name before (x ∷ lines) name a b rising p q =
@@ -39,7 +40,7 @@ one_name before (x ∷ lines) name a b rising p q =
     (contains_cases x lines (name, a) p)
 
 -- the ref at a place where the name stands has the only object of the name
-pub found_name : (lines seen : List Line) (i : ℕ) (item : Line) (name : List ℕ) → seen ≡ lines → RiseFrom None lines → i < length seen
+pub found_name : (lines seen : List Line) (i : ℕ) (item : Line) (name : List ℕ) → seen ≡ lines → RiseFrom name_in None lines → i < length seen
     → get_or seen i item ≡ item → item.0 ≡ name → (oid : Oid) → (Some item.1 ≡ Some oid) ↔ Contains lines (name, oid)
 found_name lines seen i item name e rising inside at same oid =
     let has : Contains seen item = (i, inside, at) in
@@ -50,7 +51,7 @@ found_name lines seen i item name e rising inside at same oid =
     )
 
 last_of : (before : Option (List ℕ)) (lines : List Line) (k : ℕ) (line : Line) → length lines ≡ k + 1 → slice_get lines k ≡ Some line
-    → last_from before lines ≡ Some line.0
+    → last_from name_in before lines ≡ Some line.0
 last_of before [] k line n e = cc e
 last_of before (x ∷ []) zero line n e = ap (λ (l : Line). Some l.0) (some_is x line e)
 last_of before (x ∷ []) (suc k) line n e = cc e
@@ -59,10 +60,10 @@ last_of before (x ∷ y ∷ lines) (suc k) line n e = last_of (Some x.0) (y ∷ 
 
 -- the last ref has the last name
 pub last_name : (lines seen : List Line) (line : Line) → seen ≡ lines → slice_get seen (length seen - 1) ≡ Some line
-    → last_from None lines ≡ Some line.0
+    → last_from name_in None lines ≡ Some line.0
 last_name lines seen line e h =
     let inside = slice_get_within seen (length seen - 1) line h in
-    ap (last_from None) (sym e) ∙ last_of None seen (length seen - 1) line (omega (arith, inside)) h
+    ap (last_from name_in None) (sym e) ∙ last_of None seen (length seen - 1) line (omega (arith, inside)) h
 
 -- what the test of an order says
 pub is_less : (o : Ordering) (b : Bool) → b ≡ (ordering_index o == 0) → IsTrue b ↔ (o ≡ Less)

@@ -12,24 +12,15 @@ use Rattle.std.proofs.lemmas.List.Sorted.{searchable_from_sorted}
 use Rattle.std.proofs.lemmas.Map.Lookups.{exact_bytes}
 use Rattle.rad_base.specs.declared.names.Oid.{Oid}
 use Rattle.rad_base.proofs.NameOrder.{not_below_itself}
-use Rattle.signed_refs.specs.Lines.{AreRising, Line, RiseFrom, order_of}
+use Rattle.rad_base.proofs.Rising.{rises_from, rises_searched}
+use Rattle.rad_base.specs.Order.{RiseFrom}
+use Rattle.signed_refs.specs.Lines.{AreRising, Line, order_of, name_in}
 use Rattle.signed_refs.proofs.OneName.{found_name}
 
--- each name is below the next
-next_above : (before : Option (List ℕ)) (lines : List Line) → RiseFrom before lines → (k : ℕ) (d : Line) → k + 1 < length lines
-    → slice_cmp nat_cmp (get_or lines k d).0 (get_or lines (k + 1) d).0 ≡ Less
-next_above before [] rising k d inside = absurd (omega arith)
-next_above before (x ∷ []) rising k d inside = absurd (omega (arith, inside))
-next_above before (x ∷ y ∷ lines) rising zero d inside = rising.1.0
-next_above before (x ∷ y ∷ lines) rising (suc k) d inside =
-    let next : suc k + 1 ≡ suc (k + 1) = omega arith in
-    rw next (next_above (Some x.0) (y ∷ lines) rising.1 k d (omega (arith, inside)))
-
--- so the comparisons with a name rise along the lines
+-- the comparisons with a name rise along the lines
 comparisons_rise : (lines : List Line) (name : List ℕ) → AreRising lines → IsNonDecreasingBy (λ line. ordering_index (order_of name line)) lines
 comparisons_rise lines name rising =
-    searchable_from_sorted nat_list_cmp_total (λ line. line.0) lines name
-    (λ k d low high. ap is_lt (nat_list_cmp_total.antisymm (get_or lines (k + 1) d).0 (get_or lines k d).0 ∙ ap ordering_reverse (next_above None lines rising k d high)))
+    rises_searched name_in (slice_cmp nat_cmp) nat_list_cmp_total lines name (rises_from name_in None lines rising)
 
 -- the line whose name compares as equal has the only object of the name
 pub searched_found : (lines seen : List Line) (name : List ℕ) (i : ℕ) (item : Line) → seen ≡ lines → AreRising lines → i < length seen

@@ -3,21 +3,16 @@ use Rattle.std.proofs.Common.{◌≡◌, ℕ, ◌+◌, ◌<◌, ◌≤◌, List,
 use Rattle.std.proofs.lemmas.List.{append-nil}
 use Rattle.std.proofs.lemmas.Grind.{flat_map-append}
 use Rattle.rad_base.proofs.EachItem.{each_more}
+use Rattle.rad_base.proofs.Rising.{rise_more}
 use Rattle.hex.specs.Hex.{encode_lower}
-use Rattle.git_object.specs.Grammar.{IsBelow}
-use Rattle.signed_refs.specs.Lines.{IsRefLine, Line, RiseFrom, SpellsRefs, SpellsTo, last_from, ref_line_text, refs_text}
+use Rattle.rad_base.specs.Order.{IsBelow, RiseFrom, last_from}
+use Rattle.signed_refs.specs.Lines.{IsRefLine, Line, SpellsRefs, SpellsTo, ref_line_text, refs_text, name_in}
 use Rattle.signed_refs.specs.Readings.{BreaksRefsAt, Continues, HasTooMany}
 
 -- one more line behind others
 pub text_more : (lines : List Line) (line : Line) → refs_text (lines ++ line ∷ []) ≡ refs_text lines ++ ref_line_text line
 text_more lines line =
     flat_map-append ref_line_text lines (line ∷ []) ∙ ap (λ (l : List ℕ). refs_text lines ++ l) (append-nil (ref_line_text line))
-
--- a name above the last keeps the order
-pub rise_more : (before : Option (List ℕ)) (lines : List Line) (line : Line) → RiseFrom before lines → IsBelow (last_from before lines) line.0
-    → RiseFrom before (lines ++ line ∷ [])
-rise_more before [] line rising above = (above, tt)
-rise_more before (x ∷ lines) line rising above = (rising.0, rise_more (Some x.0) lines line rising.1 above)
 
 -- at the start nothing was read
 pub spelled_none : (bytes : List ℕ) → SpellsTo [] bytes bytes
@@ -28,7 +23,7 @@ pub spelled_more : (lines : List Line) (line : Line) (behind rest bytes : List �
     → SpellsTo (lines ++ line ∷ []) behind bytes
 spelled_more lines line behind rest bytes s c = record {
   each = each_more IsRefLine lines line s.each c.good;
-  rising = rise_more None lines line s.rising c.above;
+  rising = rise_more name_in None lines line s.rising c.above;
   text =
       s.text ∙ ap (λ (l : List ℕ). refs_text lines ++ l) c.text ∙ sym (append_assoc (refs_text lines) (ref_line_text line) behind)
       ∙ ap (λ (l : List ℕ). l ++ behind) (sym (text_more lines line));

@@ -1,5 +1,5 @@
 -- The lines of signed refs.
-use Rattle.std.specs.Prelude.{◌≡◌, ℕ, ◌≤◌, List, [], ◌∷◌, ◌++◌, length, codes, Option, None, Some}
+use Rattle.std.specs.Prelude.{◌≡◌, ℕ, ◌≤◌, List, [], ◌∷◌, ◌++◌, length, codes, None}
 use Rattle.std.specs.Cmp.Lexicographic.{slice_cmp}
 use Rattle.std.specs.List.{AllByRecursion, flat_map}
 use Rattle.std.specs.Ordering.{nat_cmp}
@@ -8,7 +8,7 @@ use Rattle.hex.specs.Hex.{encode_lower}
 use Rattle.rad_base.specs.Lists.{BeginsWith}
 use Rattle.rad_base.specs.Sizes.{IsOid}
 use Rattle.rad_base.specs.declared.names.Oid.{Oid}
-use Rattle.git_object.specs.Grammar.{IsBelow}
+use Rattle.rad_base.specs.Order.{IsBelow, RiseFrom, last_from}
 use Rattle.ref_name.specs.Rules.{KeepsRules}
 
 -- the name of a ref, and the object that it names
@@ -38,23 +38,17 @@ refs_text lines = flat_map ref_line_text lines
 abbrev pub order_of : List ℕ → Line → Ordering
 order_of name line = slice_cmp nat_cmp line.0 name
 
--- the name of the last line, or the one before them all
-abbrev pub last_from : Option (List ℕ) → List Line → Option (List ℕ)
-last_from before [] = before
-last_from before (line ∷ lines) = last_from (Some line.0) lines
-
--- each name is below the next, the first above the name before, where there is one
-abbrev pub RiseFrom : Option (List ℕ) → List Line → Type 0
-RiseFrom before [] = Unit {0}
-RiseFrom before (line ∷ lines) = IsBelow before line.0 × RiseFrom (Some line.0) lines
+-- the name of a line's ref
+abbrev pub name_in : Line → List ℕ
+name_in line = line.0
 
 -- the names are strictly rising
 abbrev pub AreRising : List Line → Type 0
-AreRising lines = RiseFrom None lines
+AreRising lines = RiseFrom name_in None lines
 
 -- the name is above those of the lines
 abbrev pub IsAboveNames : List Line → List ℕ → Type 0
-IsAboveNames lines name = IsBelow (last_from None lines) name
+IsAboveNames lines name = IsBelow (last_from name_in None lines) name
 
 -- lines of their form, their names strictly rising, and the bytes that spell them with a rest
 pub record SpellsTo (lines : List Line) (rest bytes : List ℕ) : Type 0 where

@@ -6,7 +6,7 @@ use Rattle.std.specs.Cmp.Lexicographic.{slice_cmp}
 use Rattle.std.specs.declared.cmp.Ordering.TheVariants.{Less}
 use Rattle.std.proofs.lemmas.Cmp.{nat_list_cmp_total}
 use Rattle.rad_base.specs.declared.names.Oid.{Oid}
-use Rattle.git_object.specs.Grammar.{Commit, Entry, IsRisingFrom, key_of, slash_of}
+use Rattle.git_object.specs.Grammar.{Commit, Entry, IsRisingFrom, order_key, slash_of}
 use Rattle.git_object.specs.Links.{kind_of}
 use Rattle.git_object.specs.declared.kind.Kind.{Kind}
 use Rattle.git_object.specs.declared.kind.Kind.TheVariants as kinds
@@ -38,38 +38,38 @@ slash_is Directory = refl
 slash_is Gitlink = refl
 
 -- entries of one name and kind have one key
-one_key : (e f : Entry) → e.name ≡ f.name → kind_of e.mode ≡ kind_of f.mode → key_of e ≡ key_of f
+one_key : (e f : Entry) → e.name ≡ f.name → kind_of e.mode ≡ kind_of f.mode → order_key e ≡ order_key f
 one_key e f name kind = rw (name, slash_is e.mode, slash_is f.mode, kind) refl
 
 -- a key is below those of all later entries
-below_later : (e : Entry) (entries : List Entry) (f : Entry) → IsRisingFrom (Some (key_of e)) entries → Contains entries f
-    → slice_cmp nat_cmp (key_of e) (key_of f) ≡ Less
+below_later : (e : Entry) (entries : List Entry) (f : Entry) → IsRisingFrom (Some (order_key e)) entries → Contains entries f
+    → slice_cmp nat_cmp (order_key e) (order_key f) ≡ Less
 below_later e [] f rising h = absurd (contains_nothing f h)
 below_later e (x ∷ entries) f rising h =
     ⊎_elim
-    (λ first. subst (λ (y : Entry). slice_cmp nat_cmp (key_of e) (key_of y) ≡ Less) first rising.0)
-    (λ later. nat_list_cmp_total.trans (key_of e) (key_of x) (key_of f) rising.0 (below_later x entries f rising.1 later))
+    (λ first. subst (λ (y : Entry). slice_cmp nat_cmp (order_key e) (order_key y) ≡ Less) first rising.0)
+    (λ later. nat_list_cmp_total.trans (order_key e) (order_key x) (order_key f) rising.0 (below_later x entries f rising.1 later))
     (contains_cases x entries f h)
 
 -- an entry has not the key of a later one
-not_later : (e : Entry) (entries : List Entry) (f : Entry) → IsRisingFrom (Some (key_of e)) entries → Contains entries f
-    → key_of e ≡ key_of f → ⊥
+not_later : (e : Entry) (entries : List Entry) (f : Entry) → IsRisingFrom (Some (order_key e)) entries → Contains entries f
+    → order_key e ≡ order_key f → ⊥
 not_later e entries f rising h same =
-    not_below_itself (key_of f) (subst (λ (key : List ℕ). slice_cmp nat_cmp key (key_of f) ≡ Less) same (below_later e entries f rising h))
+    not_below_itself (order_key f) (subst (λ (key : List ℕ). slice_cmp nat_cmp key (order_key f) ≡ Less) same (below_later e entries f rising h))
 
 -- entries of one key are one
 one_of_key : (before : Option (List ℕ)) (entries : List Entry) (e f : Entry) → IsRisingFrom before entries → Contains entries e → Contains entries f
-    → key_of e ≡ key_of f → e ≡ f
+    → order_key e ≡ order_key f → e ≡ f
 one_of_key before [] e f rising h k same = absurd (contains_nothing e h)
 one_of_key before (x ∷ entries) e f rising h k same =
     ⊎_elim
     (λ first. ⊎_elim
     (λ other. sym first ∙ other)
-    (λ later. absurd (not_later x entries f rising.1 later (ap key_of first ∙ same)))
+    (λ later. absurd (not_later x entries f rising.1 later (ap order_key first ∙ same)))
     (contains_cases x entries f k))
     (λ behind. ⊎_elim
-    (λ other. absurd (not_later x entries e rising.1 behind (ap key_of other ∙ sym same)))
-    (λ later. one_of_key (Some (key_of x)) entries e f rising.1 behind later same)
+    (λ other. absurd (not_later x entries e rising.1 behind (ap order_key other ∙ sym same)))
+    (λ later. one_of_key (Some (order_key x)) entries e f rising.1 behind later same)
     (contains_cases x entries f k))
     (contains_cases x entries e h)
 

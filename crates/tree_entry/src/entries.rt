@@ -2,7 +2,7 @@
 ghost use Rattle.std.specs.Prelude.{◌≡◌, ◌↔◌, IfErr, IfOk, IsTrue, Some};
 ghost use Rattle.std.specs.Option.{ForSome};
 ghost use Rattle.git_object.specs.Links.{kind_of};
-ghost use Rattle.git_object.specs.Views.{entry_of};
+ghost use Rattle.git_object.specs.Views.{tree_entry_of};
 ghost use Rattle.commit_graph.specs.Faults.{KeepsObjects};
 ghost use Rattle.tree_entry.specs.Entries.{Finds, HasEntry, IsEntryIn};
 
@@ -23,8 +23,8 @@ fn links_to(mode: Mode, kind: Kind) -> bool
 
 // Whether this is the entry that is looked for.
 fn is_wanted(entry: &TreeEntry<'_>, kind: Kind, name: &[u8]) -> bool
-    ensures { IsTrue result ↔ (((entry_of entry.now).name ≡ name.now)
-        × (kind_of (entry_of entry.now).mode ≡ Some kind)) }
+    ensures { IsTrue result ↔ (((tree_entry_of entry.now).name ≡ name.now)
+        × (kind_of (tree_entry_of entry.now).mode ≡ Some kind)) }
 {
     entry.name == name && links_to(entry.mode, kind)
 }

@@ -2,7 +2,7 @@ use Rattle.std.proofs.Common.{length, arith, refl, ap, length-append}
 use Rattle.rad_base.proofs.Conditions.{is_nothing}
 use Rattle.git_object.specs.Grammar.{entry_text}
 use Rattle.git_object.specs.Reading.{entries_in}
-use Rattle.git_object.specs.Views.{entry_of, last_key}
+use Rattle.git_object.specs.Views.{tree_entry_of, last_key}
 use Rattle.git_object.proofs.TreeTexts.{broken_no_tree, broken_tree, read_all, read_more, read_none, some_rest}
 use Rattle.git_object.proofs.tree.read_tree.Goals as goal
 
@@ -21,8 +21,8 @@ pub reading-preserved : goal.reading-preserved
 reading-preserved c =
     let found = c.in-Some.ensures.found in
     record {
-      left = omega (arith, c.reading.invariant.left, ap length found.text, length-append (entry_text (entry_of c.in-Some.entry)) c.in-Some.more.now);
-      read = read_more c.args.bytes.now c.reading.rest.now c.in-Some.more.now (last_key c.reading.before) (entry_of c.in-Some.entry) c.reading.invariant.read found.is found.text found.above;
+      left = omega (arith, c.reading.invariant.left, ap length found.text, length-append (entry_text (tree_entry_of c.in-Some.entry)) c.in-Some.more.now);
+      read = read_more c.args.bytes.now c.reading.rest.now c.in-Some.more.now (last_key c.reading.before) (tree_entry_of c.in-Some.entry) c.reading.invariant.read found.is found.text found.above;
     }
 
 pub returns-clause-tree : goal.returns-clause-tree

@@ -6,7 +6,7 @@ use Rattle.rad_vectors.specs.Chains.{chain_objects, number_commit, number_object
 use Rattle.keyring.specs.Lines.{file_text}
 use Rattle.rad_vectors.specs.Generated.{generated_signer, master_line}
 use Rattle.rad_vectors.specs.Objects.{object_name}
-use Rattle.rad_vectors.specs.Repositories.{accept_of, ref_line}
+use Rattle.rad_vectors.specs.Repositories.{accept_line_of, ref_line}
 use Rattle.rad_vectors.specs.Shown.{all_shown}
 use Rattle.rad_vectors.proofs.Generating.{made_of}
 use Rattle.rad_vectors.proofs.generator.bundle_of.Goals as goal
@@ -25,7 +25,7 @@ returns c =
     ∙ ap (λ (n : ℕ). object_name (number_commit n None (tip_of m))) (sym e))) ∙ ap tip_of e in
     let text : c.push_ref.new.bytes.items ≡ ref_line c.in_ok-tip.tip (codes "refs/heads/master") =
     c.in_ok-push_ref.ensures.text ∙ ap (λ (xs : List ℕ). xs ++ ref_line c.in_ok-tip.tip (codes "refs/heads/master")) c.new-refs.ensures.items in
-    let lines : c.push_accepts.new.bytes.items ≡ file_text (accept_of (generated_signer c.push_ref.new.bytes.items) ∷ []) =
-    c.in_ok-push_accepts.ensures ∙ ap (λ (xs : List ℕ). xs ++ file_text (accept_of (generated_signer c.push_ref.new.bytes.items) ∷ [])) c.new-keyring.ensures.items in
+    let lines : c.push_accepts.new.bytes.items ≡ file_text (accept_line_of (generated_signer c.push_ref.new.bytes.items) ∷ []) =
+    c.in_ok-push_accepts.ensures ∙ ap (λ (xs : List ℕ). xs ++ file_text (accept_line_of (generated_signer c.push_ref.new.bytes.items) ∷ [])) c.new-keyring.ensures.items in
     made_of c.args.commits c.push_ref.new.bytes.items c.of-2.result c.of.result (all_shown c.push_commit.new.objects.items)
     (text ∙ ap master_line tip) tips (rw c.of-2.ensures c.in_ok-bundle.ensures) (c.of.ensures ∙ lines)

@@ -1,7 +1,7 @@
 use Rattle.std.proofs.Common.{◌∙◌, Option, List, ℕ, ap, subst, sym}
 use Rattle.std.specs.Cmp.Lexicographic.{slice_cmp}
 use Rattle.std.specs.Ordering.{nat_cmp}
-use Rattle.git_object.specs.Grammar.{IsBelow}
+use Rattle.rad_base.specs.Order.{IsBelow}
 use Rattle.signed_refs.proofs.OneName.{is_less, last_name}
 use Rattle.signed_refs.proofs.refs.Refs.is_below.Goals as goal
 
