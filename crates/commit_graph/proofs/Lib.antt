@@ -1,3 +1,4 @@
+pub mod AddBack
 pub mod Adding
 pub mod BeyondTurns
 pub mod BeyondWalks
@@ -7,9 +8,14 @@ pub mod FactsHold
 pub mod Growing
 pub mod HistoryWalks
 pub mod Holdings
+pub mod JoinedClosures
 pub mod Learned
 pub mod LeastNames
 pub mod LookUps
+pub mod ManyRoots
+pub mod MarkRounds
+pub mod MarkedBack
+pub mod MarkedClosures
 pub mod Marks
 pub mod NameSets
 pub mod Named
@@ -17,5 +23,8 @@ pub mod OneAnswer
 pub mod PairOrder
 pub mod PairSteps
 pub mod Repeats
+pub mod RisingNames
+pub mod SetMarks
 pub mod Spread
 pub mod Walked
+pub mod WebTurns

@@ -1,3 +1,4 @@
+pub mod Backward
 pub mod Beyond
 pub mod Chains
 pub mod Closures
@@ -8,7 +9,10 @@ pub mod Histories
 pub mod InMemory
 pub mod Lists
 pub mod Looks
+pub mod Many
+pub mod Marking
 pub mod Memory
 pub mod Objects
 pub mod Pairs
 pub mod Walks
+pub mod Webs

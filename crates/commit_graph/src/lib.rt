@@ -4,6 +4,7 @@
 // `Closure` and `Chain` are reached as `answer::Closure` and `answer::Chain`: an item and another
 // whose names differ only in case, as the functions here, may not stand in one module.
 pub mod answer;
+mod backward;
 mod beyond;
 mod chains;
 mod closing;
@@ -14,6 +15,8 @@ mod follow;
 mod history;
 mod laws;
 mod look;
+mod many;
+mod marked;
 mod memory;
 mod objects;
 mod plain;
@@ -22,6 +25,7 @@ mod root;
 #[cfg(test)]
 mod tests;
 mod visited;
+mod web;
 
 pub use beyond::closure_beyond;
 pub use chains::{ChainFault, chain};
@@ -33,6 +37,7 @@ pub use laws::{
     added_objects_are_not_reached, added_objects_change_no_answer, closed_where_each_is,
     objects_behind_are_added, one_answer,
 };
+pub use many::{closures, joined};
 pub use memory::MemObjects;
 pub use objects::Objects;
 pub use plain::closure_by_lists;

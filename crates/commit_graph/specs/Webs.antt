@@ -1,0 +1,16 @@
+-- What a walk comes to, with the links that it followed.
+use Rattle.std.specs.Prelude.{◌↔◌, ◌⊎◌, List, IsTrue}
+use Rattle.std.specs.BTreeSet.{contains}
+use Rattle.commit_graph.specs.declared.root.Root.{Root}
+use Rattle.commit_graph.specs.declared.web.Web.{Web}
+use Rattle.commit_graph.specs.Objects.{ObjectMap}
+use Rattle.commit_graph.specs.Pairs.{IsFit, IsLink, IsMissing, IsUnfit}
+use Rattle.commit_graph.specs.Closures.{IsReached}
+use Rattle.commit_graph.specs.Backward.{LinksTo, pair_cmp}
+
+-- the links from what is reached, of that the pairs without an object and with an unfit one, and no third kind but fit ones
+pub record IsWeb (objects : ObjectMap) (roots : List Root) (web : Web) : Type 0 where
+  pub links : (p q : Root) → LinksTo web.back p q ↔ (IsReached objects roots p × IsLink objects p q)
+  pub missing : (p : Root) → IsTrue (contains pair_cmp web.missing p) ↔ (IsReached objects roots p × IsMissing objects p)
+  pub unfit : (p : Root) → IsTrue (contains pair_cmp web.unfit p) ↔ (IsReached objects roots p × IsUnfit objects p)
+  pub judged : (p : Root) → IsReached objects roots p → IsMissing objects p ⊎ (IsUnfit objects p ⊎ IsFit objects p)
