@@ -1,6 +1,7 @@
 -- The closures of a list of roots, over the parts of the list.
-use Rattle.std.proofs.Common.{◌≡◌, ℕ, suc, zero, ◌-◌, List, [], ◌∷◌, ◌++◌, length, take, drop, refl, ap}
+use Rattle.std.proofs.Common.{◌≡◌, ℕ, suc, zero, ◌+◌, ◌-◌, ◌<◌, List, [], ◌∷◌, ◌++◌, length, take, drop, get_or, refl, sym, ap, subst}
 use Rattle.std.specs.Prelude.{slice_range}
+use Rattle.std.proofs.lemmas.List.{take_more}
 use Rattle.commit_graph.specs.declared.root.Root.{Root}
 use Rattle.commit_graph.specs.declared.answer.Closure.{Closure}
 use Rattle.commit_graph.specs.Objects.{ObjectMap}
@@ -67,3 +68,12 @@ module _ (m : ObjectMap) where
       → AreClosures m (slice_range roots from to) (slice_range answers from to)
   closures_range roots answers from to h =
       closures_take (to - from) (drop from roots) (drop from answers) (closures_drop from roots answers h)
+
+  -- one turn of a loop over the roots
+  pub closures_more : (roots : List Root) (answers answers' : List Closure) (i : ℕ) (d : Root) (answer : Closure)
+      → i < length roots → answers' ≡ answers ++ answer ∷ [] → AreClosures m (take i roots) answers
+      → IsClosure m (get_or roots i d ∷ []) answer → AreClosures m (take (i + 1) roots) answers'
+  closures_more roots answers answers' i d answer l e h k =
+      subst (AreClosures m (take (i + 1) roots)) (sym e)
+      (subst (λ (taken : List Root). AreClosures m taken (answers ++ answer ∷ [])) (sym (take_more roots i d l))
+      (closures_push (take i roots) answers (get_or roots i d) answer h k))

@@ -1,13 +1,15 @@
 -- The closure of a root by the marks of what is missing and of what is unfit.
-use Rattle.std.proofs.Common.{◌≡◌, Option, Some, None, List, [], ◌∷◌, refl, sym, subst, ⊎_elim, ◌↔◌}
+use Rattle.std.proofs.Common.{◌≡◌, ℕ, ◌<◌, Option, Some, None, List, [], ◌∷◌, length, get_or, refl, sym, ap, subst, ⊎_elim, ◌∙◌, ◌↔◌}
 use Rattle.std.specs.Prelude.{Contains, IsTrue}
 use Rattle.std.specs.BTreeSet.{BTreeSet, contains}
 use Rattle.std.specs.declared.cmp.Ordering.TheVariants.{Less}
+use Rattle.std.proofs.lemmas.Option.{slice_get-get_or}
 use Rattle.std.proofs.lemmas.Map.Views.{btree_set_contains_iff}
 use Rattle.rad_base.specs.declared.names.Oid.{Oid}
 use Rattle.rad_base.specs.Order.{oid_cmp}
-use Rattle.rad_base.proofs.Members.{contains_head, contains_one}
+use Rattle.rad_base.proofs.Members.{contains_at, contains_head, contains_one}
 use Rattle.commit_graph.specs.declared.root.Root.{Root}
+use Rattle.commit_graph.specs.declared.answer.Closure.{Closure}
 use Rattle.commit_graph.specs.declared.marked.Marks.{Marks}
 use Rattle.commit_graph.specs.declared.web.Web.{Web}
 use Rattle.commit_graph.specs.Objects.{ObjectMap, IsNamed}
@@ -108,3 +110,16 @@ module _ (m : ObjectMap) (roots : List Root) (web : Web) (is : IsWeb m roots web
       -- the closure of a root is told by its two marks
       pub closure_marked : IsClosure m (root ∷ []) (answer_of (mark_in missing root) (mark_in unfit root))
       closure_marked = answered (mark_in missing root) (mark_in unfit root) refl refl
+
+-- the answer for a root of a list, from its two marks
+pub closure_answered : {m : ObjectMap} {roots : List Root} {web : Web} {missing unfit : Marks} {a b : Option Oid} (i : ℕ) (d : Root) (answer : Closure)
+    → i < length roots → IsNamed m → IsWeb m roots web → AreMarks web.back web.missing.keys missing
+    → AreMarks web.back web.unfit.keys unfit → answer ≡ answer_of a b
+    → a ≡ mark_in missing (get_or roots i d) → b ≡ mark_in unfit (get_or roots i d)
+    → IsClosure m (get_or roots i d ∷ []) answer
+closure_answered {m} {roots} {web} {missing} {unfit} {a} {b} i d answer l named is of_missing of_unfit e f k =
+    let root = get_or roots i d in
+    let same : answer ≡ answer_of (mark_in missing root) (mark_in unfit root) =
+    e ∙ ap (λ (x : Option Oid). answer_of x b) f ∙ ap (answer_of (mark_in missing root)) k in
+    subst (IsClosure m (root ∷ [])) (sym same)
+    (closure_marked m roots web is root (contains_at roots i root (slice_get-get_or roots i d l)) named missing unfit of_missing of_unfit)
