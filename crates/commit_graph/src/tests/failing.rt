@@ -3,7 +3,7 @@ ghost use Rattle.std.specs.Prelude.{◌≡◌, ◌<◌};
 
 use super::long_chain::chain_of;
 use crate::{
-    ChainFault, FailingObjects, Failure, GetFault, Root, chain, closure, closure_beyond,
+    ChainFault, FailingObjects, Failure, GetFault, Root, chain, closure, closure_beyond, closures,
     in_history, reached,
 };
 use git_object::Kind;
@@ -17,6 +17,7 @@ use std::test::Fail;
 #[derive(Clone, Copy)]
 enum Walk {
     Closure,
+    Closures,
     Reached,
     History,
     Chain,
@@ -24,8 +25,9 @@ enum Walk {
 }
 
 // Each walk, with its look-ups over five commits and their tree.
-const WALKS: [(Walk, usize); 5] = [
+const WALKS: [(Walk, usize); 6] = [
     (Walk::Closure, 6),
+    (Walk::Closures, 6),
     (Walk::Reached, 6),
     (Walk::History, 4),
     (Walk::Chain, 5),
@@ -46,6 +48,7 @@ fn answered<L: Ledger>(
     }];
     match walk {
         Walk::Closure => closure(alloc, objects, &roots).err(),
+        Walk::Closures => closures(alloc, objects, &roots).err(),
         Walk::Reached => reached(alloc, objects, &roots).err(),
         Walk::History => in_history(alloc, objects, &root, &tip).err(),
         Walk::Chain => match chain(alloc, objects, &tip) {

@@ -83,7 +83,7 @@ pub(crate) fn built(alloc: Global, graph: &Graph) -> Result<(MemObjects, Vec<Oid
     Ok((objects, names))
 }
 
-fn closure_named(answer: Answer, names: &[Oid]) -> Closure {
+pub(crate) fn closure_named(answer: Answer, names: &[Oid]) -> Closure {
     match answer {
         Answer::Closed => Closure::Closed,
         Answer::Missing(number) => Closure::Missing(name(names, number)),
