@@ -84,7 +84,8 @@ module _ (Step : Root → Root → Type 0) (sources : List Root) where
         within = omega (arith, h.cursor, more);
         sourced = λ y c. ⊎_elim
             (λ a. sourced_stays y y.oid s (h.sourced y a))
-            (λ a. subst (λ (z : Root). MarkedBy (mark_in marks') z z.oid) a (source_marked {Step = Step} {P = Contains sources} {name = oid_of} x there (at_most_itself x.oid) h.cursor m s))
+            (λ a. subst (λ (z : Root). MarkedBy (mark_in marks') z z.oid) a
+            (source_marked {Step = Step} {P = Contains sources} {name = oid_of} x there (at_most_itself x.oid) h.cursor m s))
             (Contains-push_cases (take k sources) x y (subst (λ (ys : List Root). Contains ys y)
             (take_more sources k x within ∙ ap (λ (z : Root). take k sources ++ z ∷ []) (get_or_from_slice_get sources k x x at)) c));
         marking = marking_source x there (at_most_itself x.oid) h.cursor m s;
@@ -114,7 +115,8 @@ module _ (Step : Root → Root → Type 0) (sources : List Root) where
       }
 
 -- one turn of a round
-pub round_turn : (back : Backward) (sources : List Root) (k i : ℕ) (x pair : Root) (marks marks' : Marks) (before : List Root) → slice_get (queue_in marks) i ≡ Some pair
+pub round_turn : (back : Backward) (sources : List Root) (k i : ℕ) (x pair : Root) (marks marks' : Marks) (before : List Root)
+    → slice_get (queue_in marks) i ≡ Some pair
     → Round (LinksTo back) sources k x marks i → before ≡ before_in back pair → MarksAll marks before x.oid marks' → Round (LinksTo back) sources k x marks' (i + 1)
 round_turn back sources k i x pair marks marks' before at h e g =
     let s = as_marks marks marks' (before_in back pair) x.oid (subst (λ (ps : List Root). MarksAll marks ps x.oid marks') e g) in
@@ -128,7 +130,8 @@ round_turn back sources k i x pair marks marks' before at h e g =
     }
 
 -- all rounds are over
-pub rounds_end : (back : Backward) (sources : List Root) (k i : ℕ) (marks : Marks) → length sources ≤ k → Rounds (LinksTo back) sources k marks i → AreMarks back sources marks
+pub rounds_end : (back : Backward) (sources : List Root) (k i : ℕ) (marks : Marks)
+    → length sources ≤ k → Rounds (LinksTo back) sources k marks i → AreMarks back sources marks
 rounds_end back sources k i marks l h = record {
   sound = h.sound;
   onward = h.back;

@@ -38,12 +38,15 @@ module _ {X : Type 0} where
       ∙ ap (λ (n : ℕ). x ∷ drop n queue) step
 
   pub drop_here : (queue : List X) (i : ℕ) (x : X) → slice_get queue i ≡ Some x → Contains (drop i queue) x
-  drop_here queue i x at = subst (λ (ys : List X). Contains ys x) (sym (split_here queue i x at)) (Contains-append_left (x ∷ []) (drop (i + 1) queue) x (Contains-push [] x))
+  drop_here queue i x at =
+      subst (λ (ys : List X). Contains ys x) (sym (split_here queue i x at))
+      (Contains-append_left (x ∷ []) (drop (i + 1) queue) x (Contains-push [] x))
 
   pub taken_in : (queue : List X) (i : ℕ) (q : X) → Contains (take i queue) q → Contains queue q
   taken_in queue i q c = subst (λ (ys : List X). Contains ys q) (take-append-drop i queue) (Contains-append_left (take i queue) (drop i queue) q c)
 
-  pub take_pushed : (queue queue' more : List X) (i : ℕ) (x : X) → slice_get queue i ≡ Some x → queue' ≡ queue ++ more → take (i + 1) queue' ≡ take i queue ++ x ∷ []
+  pub take_pushed : (queue queue' more : List X) (i : ℕ) (x : X)
+      → slice_get queue i ≡ Some x → queue' ≡ queue ++ more → take (i + 1) queue' ≡ take i queue ++ x ∷ []
   take_pushed queue queue' more i x at e =
       let within : i < length queue = slice_get_within queue i x at in
       ap (take (i + 1)) e ∙ take-append-le (i + 1) queue more (omega arith)
@@ -76,7 +79,8 @@ pub finds_step : {X : Type 0} (Step : X → X → Type 0) (P : X → Type 0) (na
 finds_step Step P name p q oid s h = record { source = h.source; holds = h.holds; path = q ∷ h.path; walk = (s, h.walk); named = h.named }
 
 -- the marks of the pairs done are followed backwards, and each mark is the name of a source that is reached
-pub record Marking {X : Type 0} (Step : X → X → Type 0) (P : X → Type 0) (name : X → Oid) (mark : X → Option Oid) (queue : List X) (i : ℕ) (top : Oid) : Type 0 where
+pub record Marking {X : Type 0} (Step : X → X → Type 0) (P : X → Type 0) (name : X → Oid)
+    (mark : X → Option Oid) (queue : List X) (i : ℕ) (top : Oid) : Type 0 where
   pub sound : (p : X) (oid : Oid) → mark p ≡ Some oid → Finds Step P name p oid
   pub queued : (p : X) (oid : Oid) → mark p ≡ Some oid → Contains queue p
   pub bound : (p : X) (oid : Oid) → mark p ≡ Some oid → AtMost oid top

@@ -95,7 +95,8 @@ module _ (m : ObjectMap) (roots : List Root) (web : Web) (is : IsWeb m roots web
         a)
         (is.judged p (kept p r).1)
 
-    module _ (named : IsNamed m) (missing unfit : Marks) (of_missing : AreMarks web.back web.missing.keys missing) (of_unfit : AreMarks web.back web.unfit.keys unfit) where
+    module _ (named : IsNamed m) (missing unfit : Marks)
+        (of_missing : AreMarks web.back web.missing.keys missing) (of_unfit : AreMarks web.back web.unfit.keys unfit) where
       answered : (a b : Option Oid) → mark_in missing root ≡ a → mark_in unfit root ≡ b
           → IsClosure m (root ∷ []) (answer_of a b)
       answered (Some oid) b e f = least_marked (IsMissing m) web.missing is.missing missing of_missing oid e

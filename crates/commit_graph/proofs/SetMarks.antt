@@ -28,7 +28,10 @@ has_none None e = refl
 pub marks_there : (old : Marks) (pair : Root) (oid : Oid) → is_some (mark_in old pair) ≡ true → MarksAll old (pair ∷ []) oid old
 marks_there old pair oid e = record {
   kept = λ p o h. h;
-  all = λ p c. ⊎_elim (λ a. absurd (contains_nothing p a)) (λ a. let m = has_value (mark_in old pair) e in (m.0, subst (λ (x : Root). mark_in old x ≡ Some m.0) a m.1)) (Contains-push_cases [] pair p c);
+  all = λ p c. ⊎_elim
+      (λ a. absurd (contains_nothing p a))
+      (λ a. let m = has_value (mark_in old pair) e in (m.0, subst (λ (x : Root). mark_in old x ≡ Some m.0) a m.1))
+      (Contains-push_cases [] pair p c);
   only = λ p o h. inl h;
   more = [];
   queued = sym (append-nil (queue_in old));
@@ -82,7 +85,8 @@ marks_none old oid = record {
 }
 
 -- one more pair is marked
-marks_push : (old cur new : Marks) (pairs : List Root) (x : Root) (oid : Oid) → MarksAll old pairs oid cur → MarksAll cur (x ∷ []) oid new → MarksAll old (pairs ++ x ∷ []) oid new
+marks_push : (old cur new : Marks) (pairs : List Root) (x : Root) (oid : Oid)
+    → MarksAll old pairs oid cur → MarksAll cur (x ∷ []) oid new → MarksAll old (pairs ++ x ∷ []) oid new
 marks_push old cur new pairs x oid h g = record {
   kept = λ p o e. g.kept p o (h.kept p o e);
   all = λ p c. ⊎_elim (λ a. let m = h.all p a in (m.0, g.kept p m.0 m.1)) (λ a. g.all p a) (Contains-append_cases pairs (x ∷ []) p c);

@@ -8,7 +8,7 @@ use Rattle.commit_graph.specs.Pairs.{IsFit, IsLink, IsMissing, IsUnfit}
 use Rattle.commit_graph.specs.Closures.{IsReached}
 use Rattle.commit_graph.specs.Backward.{LinksTo, pair_cmp}
 
--- the links from what is reached, of that the pairs without an object and with an unfit one, and no third kind but fit ones
+-- the links from all that is reached; the pairs reached that have no object, and those whose object is unfit; all others are fit
 pub record IsWeb (objects : ObjectMap) (roots : List Root) (web : Web) : Type 0 where
   pub links : (p q : Root) → LinksTo web.back p q ↔ (IsReached objects roots p × IsLink objects p q)
   pub missing : (p : Root) → IsTrue (contains pair_cmp web.missing p) ↔ (IsReached objects roots p × IsMissing objects p)

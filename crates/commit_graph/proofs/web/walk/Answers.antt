@@ -26,7 +26,8 @@ loop-i-init g c = record {
   looked = λ m e. omega arith;
   gathering = λ m e.
       gathering_start m (record { back = c.new-back.result; missing = c.new-missing.result; unfit = c.new-unfit.result })
-      (subst (λ (none : List Root). Extends none c.args.roots.now c.extend.new.self) c.new-found.ensures c.in_ok-extend.ensures) c.new-back.ensures c.new-missing.ensures.empty c.new-unfit.ensures.empty;
+      (subst (λ (none : List Root). Extends none c.args.roots.now c.extend.new.self) c.new-found.ensures c.in_ok-extend.ensures)
+      c.new-back.ensures c.new-missing.ensures.empty c.new-unfit.ensures.empty;
 }
 
 pub loop-i-preserved : goal.loop-i-preserved
@@ -39,8 +40,10 @@ loop-i-preserved g c =
       beside = c.in_ok-look.ensures.keeps.beside ∙ c.loop-i.invariant.beside;
       still = c.in_ok-look.ensures.keeps.cause ∙ c.loop-i.invariant.still;
       looked = λ m e. elim c.match-branch-3.branch [
-        | in-Missing+in_ok-insert-in-Missing w ↦ looks_turn _ _ _ c.loop-i.i x c.at-pair.ensures (extends_same w.found-is) c.in_ok-look.ensures.looked (c.loop-i.invariant.looked m e)
-        | in-Unfit+in_ok-insert-in-Unfit w ↦ looks_turn _ _ _ c.loop-i.i x c.at-pair.ensures (extends_same w.found-is) c.in_ok-look.ensures.looked (c.loop-i.invariant.looked m e)
+        | in-Missing+in_ok-insert-in-Missing w ↦ looks_turn _ _ _ c.loop-i.i x c.at-pair.ensures
+            (extends_same w.found-is) c.in_ok-look.ensures.looked (c.loop-i.invariant.looked m e)
+        | in-Unfit+in_ok-insert-in-Unfit w ↦ looks_turn _ _ _ c.loop-i.i x c.at-pair.ensures
+            (extends_same w.found-is) c.in_ok-look.ensures.looked (c.loop-i.invariant.looked m e)
         | in-Fit+in_ok-follow-in-Fit+in_ok-add_links-in-Fit w ↦ looks_turn _ _ _ c.loop-i.i x c.at-pair.ensures
             (extends_along refl (sym w.found-is) w.in_ok-follow-in-Fit.ensures) c.in_ok-look.ensures.looked (c.loop-i.invariant.looked m e)
       ];
@@ -50,13 +53,15 @@ loop-i-preserved g c =
           gathering_turn c.loop-i.i x old new c.at-pair.ensures (c.loop-i.invariant.gathering m e)
           (elim c.match-branch-3.branch [
             | in-Missing+in_ok-insert-in-Missing w ↦ gathers_missing old new (subst shows w.in-Missing.is told) w.found-is w.back-is
-                (subst (λ (set : BTreeSet Root). Updates pair_cmp c.loop-i.missing set x true) (sym w.missing-is) w.in_ok-insert-in-Missing.ensures.updates) w.unfit-is
+                (subst (λ (set : BTreeSet Root). Updates pair_cmp c.loop-i.missing set x true) (sym w.missing-is)
+                w.in_ok-insert-in-Missing.ensures.updates) w.unfit-is
             | in-Unfit+in_ok-insert-in-Unfit w ↦ gathers_unfit old new (subst shows w.in-Unfit.is told) w.found-is w.back-is w.missing-is
                 (subst (λ (set : BTreeSet Root). Updates pair_cmp c.loop-i.unfit set x true) (sym w.unfit-is) w.in_ok-insert-in-Unfit.ensures.updates)
             | in-Fit+in_ok-follow-in-Fit+in_ok-add_links-in-Fit w ↦ gathers_fit old new (subst shows w.in-Fit.is told)
                 (extends_along (ap (map pair_of) w.as_slice.ensures.value) (sym w.found-is) w.in_ok-follow-in-Fit.ensures)
                 (subst (λ (links : List LinkTo). LinksAdded c.loop-i.back x (map pair_of links) c.match-branch-3.back) w.as_slice-in-Fit.ensures.value
-                (subst (λ (back : Backward). LinksAdded c.loop-i.back x (map pair_of w.as_slice-in-Fit.result.now) back) (sym w.back-is) w.in_ok-add_links-in-Fit.ensures))
+                (subst (λ (back : Backward). LinksAdded c.loop-i.back x (map pair_of w.as_slice-in-Fit.result.now) back) (sym w.back-is)
+                w.in_ok-add_links-in-Fit.ensures))
                 w.missing-is w.unfit-is
           ]);
     }
