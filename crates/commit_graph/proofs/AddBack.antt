@@ -1,6 +1,6 @@
 -- One more link, kept backwards.
-use Rattle.std.proofs.Common.{◌≡◌, ℕ, ◌+◌, ◌<◌, Bool, true, false, cond, Option, Some, None, List, [], ◌∷◌, ◌++◌, Vec, Global, length, take, get_or, option_map, sym, ap, subst, inl, inr, ◌⊎◌, ⊎_elim, ◌∙◌, ◌↔◌}
-use Rattle.std.specs.Prelude.{Contains, map}
+use Rattle.std.proofs.Common.{◌≡◌, Bool, true, false, cond, Option, Some, None, List, [], ◌∷◌, ◌++◌, Vec, Global, option_map, sym, ap, subst, inl, inr, ◌⊎◌, ⊎_elim, ◌∙◌, ◌↔◌}
+use Rattle.std.specs.Prelude.{Contains}
 use Rattle.std.specs.Option.{unwrap_or}
 use Rattle.std.specs.BTreeMap.{get, is_at}
 use Rattle.std.proofs.lemmas.Bool.{cases_Bool, false≢true}

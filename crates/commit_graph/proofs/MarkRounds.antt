@@ -1,5 +1,5 @@
 -- The rounds of marking, one for each source.
-use Rattle.std.proofs.Common.{◌≡◌, ℕ, ◌≤◌, ◌<◌, ◌+◌, length, take, drop, get_or, Option, Some, None, List, [], ◌∷◌, ◌++◌, refl, sym, ap, subst, inl, inr, ⊎_elim, ◌∙◌, arith, length-append}
+use Rattle.std.proofs.Common.{◌≡◌, ℕ, ◌≤◌, ◌<◌, ◌+◌, length, take, drop, Some, None, List, [], ◌∷◌, ◌++◌, sym, ap, subst, inl, inr, ⊎_elim, ◌∙◌, arith, length-append}
 use Rattle.std.specs.Prelude.{Contains, slice_get}
 use Rattle.std.proofs.lemmas.List.Elements.{Contains-push_cases, Contains-push}
 use Rattle.rad_base.specs.declared.names.Oid.{Oid}
@@ -12,7 +12,7 @@ use Rattle.commit_graph.specs.declared.root.Root.{Root}
 use Rattle.commit_graph.specs.declared.marked.Marks.{Marks}
 use Rattle.commit_graph.specs.Pairs.{oid_of}
 use Rattle.commit_graph.specs.Backward.{LinksTo, before_in}
-use Rattle.commit_graph.specs.Marking.{AtMost, Finds, MarkedBy, mark_in, queue_in, MarksAll, RisesByName, AreMarks}
+use Rattle.commit_graph.specs.Marking.{Finds, MarkedBy, mark_in, queue_in, MarksAll, RisesByName, AreMarks}
 use Rattle.commit_graph.proofs.MarkedBack.{Marking, Sets, at_most_itself, at_most_along, marking_turn, marking_source, source_marked, sourced_stays, drop_none}
 
 -- between two rounds

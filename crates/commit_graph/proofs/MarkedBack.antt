@@ -13,9 +13,8 @@ use Rattle.rad_base.specs.Order.{oid_cmp}
 use Rattle.rad_base.proofs.NameOrder.{oid_total, oid_exact, not_below_itself}
 use Rattle.rad_base.proofs.Members.{contains_nothing}
 use Rattle.rad_base.proofs.Options.{one_value, not_nothing}
-use Rattle.commit_graph.specs.Walks.{Walk, Reached}
+use Rattle.commit_graph.specs.Walks.{Walk}
 use Rattle.commit_graph.specs.Marking.{AtMost, Finds, MarkedBy}
-use Rattle.commit_graph.proofs.Walked.{reached_root, reached_step, walk_push}
 
 pub at_most_itself : (a : Oid) → AtMost a a
 at_most_itself a h = not_below_itself a.0 h

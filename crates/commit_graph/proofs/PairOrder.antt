@@ -11,7 +11,7 @@ use Rattle.rad_base.specs.declared.names.Oid.{Oid}
 use Rattle.commit_graph.specs.declared.root.Root.{Root}
 use Rattle.rad_base.specs.Order.{oid_cmp}
 use Rattle.rad_base.proofs.NameOrder.{both_equal, oid_total, oid_exact}
-use Rattle.commit_graph.specs.contracts.root.RootOrd.TheImpl.{cmp-value}
+pub use Rattle.commit_graph.specs.PairOrder.{pair_cmp}
 
 -- the kinds in their order
 abbrev code : Option Kind → ℕ
@@ -20,9 +20,6 @@ code (Some Blob) = 1
 code (Some Tree) = 2
 code (Some Commit) = 3
 code (Some Tag) = 4
-
-abbrev pub pair_cmp : Root → Root → Ordering
-pair_cmp = cmp-value.it
 
 abbrev make : Oid → Option Kind → Root
 make o k = record { oid = o; kind = k }

@@ -1,6 +1,6 @@
 -- Pairs in their order rise by name.
-use Rattle.std.proofs.Common.{◌≡◌, ℕ, suc, zero, ◌≤◌, Some, List, [], ◌∷◌, refl, sym, ap, subst, ⊎_elim, ◌∙◌, arith}
-use Rattle.std.specs.Prelude.{Contains, slice_get}
+use Rattle.std.proofs.Common.{◌≡◌, suc, zero, List, [], ◌∷◌, sym, ap, subst, ⊎_elim, ◌∙◌, arith}
+use Rattle.std.specs.Prelude.{Contains}
 use Rattle.std.specs.List.{AllByRecursion}
 use Rattle.std.specs.List.Sorted.{IsStrictlySortedBy}
 use Rattle.std.specs.declared.cmp.Ordering.{Ordering}
@@ -13,7 +13,7 @@ use Rattle.rad_base.proofs.Options.{some_is}
 use Rattle.commit_graph.specs.declared.root.Root.{Root}
 use Rattle.commit_graph.specs.Marking.{AtMost, RisesByName}
 use Rattle.commit_graph.proofs.MarkedBack.{at_most_itself}
-use Rattle.commit_graph.proofs.PairOrder.{pair_cmp, pair_total}
+use Rattle.commit_graph.proofs.PairOrder.{pair_cmp}
 
 not_then : (o rest : Ordering) → o ≡ Greater → ordering_then o rest ≡ Less → ⊥
 not_then Less rest e h = cc e

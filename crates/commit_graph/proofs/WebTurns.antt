@@ -1,5 +1,5 @@
 -- What the turns of a walk gather, and what they come to.
-use Rattle.std.proofs.Common.{◌≡◌, ℕ, ◌+◌, Bool, true, false, cond, Some, List, [], ◌∷◌, ◌++◌, take, refl, sym, ap, subst, inl, inr, ◌⊎◌, ⊎_elim, ◌∙◌, ◌↔◌}
+use Rattle.std.proofs.Common.{◌≡◌, ℕ, ◌+◌, Bool, true, false, cond, Some, List, [], ◌∷◌, ◌++◌, take, sym, ap, subst, inl, inr, ◌⊎◌, ⊎_elim, ◌∙◌, ◌↔◌}
 use Rattle.std.specs.Prelude.{Contains, IsTrue, map, slice_get}
 use Rattle.std.specs.BTreeSet.{BTreeSet, contains, Updates}
 use Rattle.std.specs.BTreeMap.{is_at}
@@ -14,7 +14,7 @@ use Rattle.commit_graph.specs.declared.backward.Backward.{Backward}
 use Rattle.commit_graph.specs.declared.web.Web.{Web}
 use Rattle.commit_graph.specs.Objects.{ObjectMap}
 use Rattle.commit_graph.specs.Lists.{Extends, Follows}
-use Rattle.commit_graph.specs.Pairs.{IsMissing, IsFit, IsUnfit, IsLink, pair_of}
+use Rattle.commit_graph.specs.Pairs.{IsMissing, IsUnfit, IsLink, pair_of}
 use Rattle.commit_graph.specs.Looks.{HasLinks}
 use Rattle.commit_graph.specs.Closures.{IsReached}
 use Rattle.commit_graph.specs.Backward.{LinksTo}

@@ -2,14 +2,9 @@
 use Rattle.std.specs.Prelude.{List, [], Contains, option_map}
 use Rattle.std.specs.Option.{unwrap_or}
 use Rattle.std.specs.BTreeMap.{get}
-use Rattle.std.specs.declared.cmp.Ordering.{Ordering}
 use Rattle.commit_graph.specs.declared.root.Root.{Root}
 use Rattle.commit_graph.specs.declared.backward.Backward.{Backward}
-use Rattle.commit_graph.specs.contracts.root.RootOrd.TheImpl.{cmp-value}
-
--- the order of pairs: by name, and then by kind
-abbrev pub pair_cmp : Root → Root → Ordering
-pair_cmp = cmp-value.it
+use Rattle.commit_graph.specs.PairOrder.{pair_cmp}
 
 -- the pairs that link to one
 abbrev pub before_in : Backward → Root → List Root

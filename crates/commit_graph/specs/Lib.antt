@@ -13,6 +13,7 @@ pub mod Many
 pub mod Marking
 pub mod Memory
 pub mod Objects
+pub mod PairOrder
 pub mod Pairs
 pub mod Walks
 pub mod Webs

@@ -9,7 +9,8 @@ use Rattle.commit_graph.specs.declared.backward.Backward.{Backward}
 use Rattle.commit_graph.specs.declared.marked.Marks.{Marks}
 use Rattle.commit_graph.specs.Pairs.{oid_of}
 use Rattle.commit_graph.specs.Walks.{Walk}
-use Rattle.commit_graph.specs.Backward.{LinksTo, pair_cmp}
+use Rattle.commit_graph.specs.PairOrder.{pair_cmp}
+use Rattle.commit_graph.specs.Backward.{LinksTo}
 
 -- the mark of a pair
 abbrev pub mark_in : Marks → Root → Option Oid

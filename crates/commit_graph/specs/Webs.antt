@@ -6,7 +6,8 @@ use Rattle.commit_graph.specs.declared.web.Web.{Web}
 use Rattle.commit_graph.specs.Objects.{ObjectMap}
 use Rattle.commit_graph.specs.Pairs.{IsFit, IsLink, IsMissing, IsUnfit}
 use Rattle.commit_graph.specs.Closures.{IsReached}
-use Rattle.commit_graph.specs.Backward.{LinksTo, pair_cmp}
+use Rattle.commit_graph.specs.PairOrder.{pair_cmp}
+use Rattle.commit_graph.specs.Backward.{LinksTo}
 
 -- the links from all that is reached; the pairs reached that have no object, and those whose object is unfit; all others are fit
 pub record IsWeb (objects : ObjectMap) (roots : List Root) (web : Web) : Type 0 where

@@ -6,7 +6,7 @@ ghost use Rattle.commit_graph.specs.declared.root.Root.{Root};
 ghost use Rattle.commit_graph.specs.Faults.{KeepsObjects};
 ghost use Rattle.commit_graph.specs.Closures.{CoversReached, IsClosure};
 ghost use Rattle.commit_graph.specs.Objects.{ObjectMap};
-ghost use Rattle.commit_graph.specs.Backward.{pair_cmp};
+ghost use Rattle.commit_graph.specs.PairOrder.{pair_cmp};
 ghost use Rattle.commit_graph.specs.Marking.{AreMarks, RisesByName};
 ghost use Rattle.commit_graph.specs.Many.{AreClosures};
 
