@@ -5,7 +5,7 @@ use crate::chain::Chain;
 use canonical_head::answer::Head;
 use canonical_head::head;
 use commit_graph::answer::Closure;
-use commit_graph::{Root, closure, in_history, reached};
+use commit_graph::{Root, closure, closures, in_history, reached};
 use git_object::Kind;
 use rad_base::Oid;
 use std::alloc::Global;
@@ -15,6 +15,8 @@ use std::alloc::Global;
 pub enum Walk {
     /// Whether the last commit is closed.
     Closure,
+    /// Which of the last of the chain's commits are closed, so many of them.
+    Closures(usize),
     /// The names that the last commit reaches.
     Reached,
     /// Whether the first commit lies in the history of the last.
@@ -26,8 +28,9 @@ pub enum Walk {
 }
 
 /// Each walk with its name.
-pub const WALKS: [(&str, Walk); 7] = [
+pub const WALKS: [(&str, Walk); 8] = [
     ("closure", Walk::Closure),
+    ("closures_of_1024", Walk::Closures(1024)),
     ("reached", Walk::Reached),
     ("history", Walk::History),
     ("head_of_1", Walk::Head(1)),
@@ -54,7 +57,23 @@ fn place(commits: &[Oid], head: Head) -> usize {
     }
 }
 
-/// What a walk answers, as a number: 1 for yes, the number of names, the place of a head.
+// How many of the commits are closed.
+fn closed(alloc: Global, chain: &Chain, commits: &[Oid]) -> Option<usize> {
+    let mut objects = &chain.objects;
+    let mut roots = Vec::new(alloc);
+    for oid in commits {
+        let kind = Some(Kind::Commit);
+        roots.push(Root { oid: *oid, kind }).ok()?;
+    }
+    let mut count = 0usize;
+    for answer in closures(alloc, &mut objects, &roots).ok()? {
+        count = count.saturating_add(usize::from(answer == Closure::Closed));
+    }
+    Some(count)
+}
+
+/// What a walk answers, as a number: 1 for yes, the number of names, the place of a head, how many
+/// commits are closed.
 pub fn answer(alloc: Global, chain: &Chain, walk: Walk) -> Option<usize> {
     let mut objects = &chain.objects;
     let commits = chain.commits.as_slice();
@@ -70,6 +89,7 @@ pub fn answer(alloc: Global, chain: &Chain, walk: Walk) -> Option<usize> {
             Closure::Closed => Some(1),
             _ => Some(0),
         },
+        Walk::Closures(count) => closed(alloc, chain, &commits[behind(commits.len(), count)..]),
         Walk::Reached => Some(reached(alloc, &mut objects, &roots).ok()?.as_slice().len()),
         Walk::History => Some(usize::from(in_history(alloc, &mut objects, &first, &last).ok()?)),
         Walk::Head(count) => {
