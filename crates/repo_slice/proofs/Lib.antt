@@ -1,0 +1,15 @@
+pub mod GrowingSlices
+pub mod Halts
+pub mod Identities
+pub mod MapPuts
+pub mod MemoryAlone
+pub mod Naming
+pub mod NextStates
+pub mod OfferedAgain
+pub mod OneOutcome
+pub mod OneVerdict
+pub mod RefsOf
+pub mod Replacing
+pub mod Staging
+pub mod Stopping
+pub mod Turns

@@ -1,0 +1,10 @@
+pub mod Good
+pub mod Heads
+pub mod Keeps
+pub mod MemKeeps
+pub mod Outcomes
+pub mod Parts
+pub mod Slices
+pub mod Standing
+pub mod Verdicts
+pub mod Wanted

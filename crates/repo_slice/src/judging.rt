@@ -1,0 +1,147 @@
+// The judging of an offer over any objects.
+ghost use Rattle.std.specs.Prelude.{◌≡◌, ◌≤◌, ◌++◌, [], length, IfErr, IfOk, None, OnOk, Some};
+ghost use Rattle.std.specs.Option.{ForSome};
+ghost use Rattle.commit_graph.specs.Faults.{KeepsObjects};
+ghost use Rattle.identity_doc.specs.IdentityChains.{HasIdentity};
+ghost use Rattle.repo_slice.specs.Good.{IsGood};
+ghost use Rattle.rad_base.specs.Order.{IsAbove};
+ghost use Rattle.repo_slice.specs.Outcomes.{AreOutcomes, advanced_in, count_after, if_advanced};
+ghost use Rattle.repo_slice.specs.Parts.{case_in};
+ghost use Rattle.rad_base.specs.Order.{commit_of};
+ghost use Rattle.repo_slice.specs.Standing.{delegates_in};
+ghost use Rattle.repo_slice.specs.Verdicts.{IsChecked, IsVerdict};
+
+use crate::identity::judge_id;
+use crate::remote::outcome_of;
+use crate::stop::Stop;
+use crate::terms::Terms;
+use crate::{Judged, Outcome, Outcomes, Scope, State, Whole};
+use commit_graph::{GetFault, Objects};
+use keyring::Keyring;
+use rad_base::{Nid, NoMemory, Offer, Oid, Remotes};
+use std::alloc::Global;
+use std::collections::BTreeSet;
+
+/// The outcomes of offered remotes, and those that advance.
+#[derive(Drop)]
+struct Remarks {
+    outcomes: Outcomes,
+    advanced: Remotes,
+}
+
+/// Notes a remote that advances, and that one more stands if it is new.
+fn note(
+    stored: &Remotes,
+    advanced: &mut Remotes,
+    count: &mut usize,
+    node: &Nid,
+    commit: &Oid,
+    outcome: Outcome,
+) -> Result<(), NoMemory>
+    requires above { IsAbove advanced.old node.now }
+    requires few { count.old ≤ 1024 }
+    requires room { outcome ≡ Outcome.Advanced
+        → (commit_of stored.now node.now ≡ None) × (count.old ≡ 1024) → ⊥ }
+    ensures advanced { OnOk result (advanced.new
+        ≡ advanced.old ++ if_advanced outcome (node.now, commit.now) []) }
+    ensures counted { OnOk result
+        (count.new ≡ count_after stored.now count.old node.now outcome) }
+    ensures few { count.new ≤ 1024 }
+{
+    let Outcome::Advanced = outcome else {
+        return Ok(());
+    };
+    advanced.push(*node, *commit)?;
+    if stored.get(node).is_none() {
+        *count += 1;
+    }
+    Ok(())
+}
+
+/// Judges each offered remote.
+fn judge_remotes<O: Objects>(
+    alloc: Global,
+    objects: &mut O,
+    terms: &Terms<'_>,
+    remotes: &Remotes,
+) -> Result<Remarks, GetFault>
+    requires { length terms.now.state.now.remotes ≤ 1024 }
+    ensures told { ForSome (O.content objects.old) (λ m. IfOk result (λ found. AreOutcomes m
+        (case_in terms.now) (length terms.now.state.now.remotes) remotes.now found.outcomes)) }
+    ensures advanced { IfOk result
+        (λ found. found.advanced ≡ advanced_in remotes.now found.outcomes) }
+    ensures keeps { KeepsObjects O.content O.beside O.places O.faults Some objects.old objects.new
+        result }
+{
+    let mut known = BTreeSet::new(alloc);
+    let mut outcomes = Outcomes::new(alloc);
+    let mut advanced = Remotes::new(alloc);
+    let mut count = terms.state.remotes.as_slice().len();
+    let pairs = remotes.as_slice();
+    for (node, commit) in pairs {
+        let outcome = outcome_of(alloc, objects, terms, &mut known, count, node, commit)?;
+        outcomes.push(*node, outcome)?;
+        note(
+            &terms.state.remotes,
+            &mut advanced,
+            &mut count,
+            node,
+            commit,
+            outcome,
+        )?;
+    }
+    Ok(Remarks { outcomes, advanced })
+}
+
+/// How many of the delegates have a remote once some are replaced or added.
+fn delegates_in(old: &Remotes, advanced: &Remotes, delegates: &[Nid]) -> usize
+    ensures { result ≡ delegates_in old.now advanced.now delegates.now }
+{
+    delegates
+        .iter()
+        .filter(|node| advanced.get(node).or(old.get(node)).is_some())
+        .count()
+}
+
+/// Judges an offer over any objects. Where the state is good the verdict is the one that the
+/// definition gives.
+pub(crate) fn judge_over<O: Objects>(
+    alloc: Global,
+    objects: &mut O,
+    state: &State,
+    offer: &Offer,
+    keyring: &Keyring,
+    scope: &Scope,
+) -> Result<Result<Judged, Whole>, GetFault>
+    requires { length state.now.remotes ≤ 1024 }
+    ensures told { ForSome (O.content objects.old) (λ m. IsGood m keyring.now state.now
+        → IfOk result (IsVerdict m keyring.now state.now offer.now scope.now)) }
+    ensures checked { IfOk result (λ verdict. IfErr verdict IsChecked) }
+    ensures keeps { KeepsObjects O.content O.beside O.places O.faults Some objects.old objects.new
+        result }
+{
+    let identity = match judge_id(alloc, objects, state, keyring, &offer.id) {
+        Ok(identity) => identity,
+        Err(Stop::Whole(why)) => return Ok(Err(why)),
+        Err(Stop::Get(why)) => return Err(why),
+    };
+    let terms = Terms {
+        state,
+        keyring,
+        doc: &identity.doc,
+        scope,
+    };
+    let found = judge_remotes(alloc, objects, &terms, &offer.remotes)?;
+    let delegates = identity.doc.delegates.as_slice();
+    let have = delegates_in(&state.remotes, &found.advanced, delegates);
+    let need = usize::from(identity.doc.threshold);
+    if have < need {
+        return Ok(Err(Whole::TooFewDelegates { have, need }));
+    }
+    Ok(Ok(Judged {
+        id_outcome: identity.outcome,
+        outcomes: found.outcomes,
+        next_id: identity.next,
+        advanced: found.advanced,
+    }))
+}

@@ -1,0 +1,70 @@
+// What holds of slices and verdicts by the definitions alone.
+ghost use Rattle.std.specs.Prelude.{◌≡◌, ℕ, List, Some, Contains};
+ghost use Rattle.rad_base.specs.declared.names.Nid.{Nid};
+ghost use Rattle.rad_base.specs.declared.names.Oid.{Oid};
+ghost use Rattle.rad_base.specs.declared.offer.Offer.{Offer};
+ghost use Rattle.keyring.specs.Contents.{Contents};
+ghost use Rattle.repo_slice.specs.Good.{Advances, IsGood};
+ghost use Rattle.commit_graph.specs.Objects.{Grows, ObjectMap};
+ghost use Rattle.repo_slice.specs.Outcomes.{AreOutcomes, Case};
+ghost use Rattle.rad_base.specs.Order.{IsRising, commit_of};
+ghost use Rattle.repo_slice.specs.Standing.{Replaces, replaced};
+ghost use Rattle.repo_slice.specs.Verdicts.{Allows, IsJudged, IsNextState, IsRefusedWhole};
+ghost use Rattle.repo_slice.specs.declared.outcomes.Outcome.{Outcome};
+ghost use Rattle.repo_slice.specs.declared.scope.Scope.{Scope};
+ghost use Rattle.repo_slice.specs.declared.state.State.{State};
+ghost use Rattle.repo_slice.specs.declared.verdict.Judged.{Judged};
+ghost use Rattle.repo_entries.specs.declared.whole.Whole.{Whole};
+
+/// Objects that are added and never replaced keep a good slice good.
+pub fn put_keeps_good()
+    ensures { (old new : ObjectMap) (keyring : Contents) (state : State) → Grows old new
+        → IsGood old keyring state → IsGood new keyring state }
+{}
+
+/// From a good slice the next one is good, and each remote that is replaced advances.
+pub fn next_is_good()
+    ensures good { (objects : ObjectMap) (keyring : Contents) (state next : State) (offer : Offer)
+        (scope : Scope) (judged : Judged) → IsGood objects keyring state
+        → IsJudged objects keyring state offer scope judged → IsNextState state judged next
+        → IsGood objects keyring next }
+    ensures advances { (objects : ObjectMap) (keyring : Contents) (state : State) (offer : Offer)
+        (scope : Scope) (judged : Judged) (node : Nid) (old new : Oid)
+        → IsJudged objects keyring state offer scope judged
+        → commit_of state.remotes node ≡ Some old → Contains judged.advanced (node, new)
+        → Advances objects old new }
+{}
+
+/// Offered remotes have one list of outcomes.
+pub fn one_list_of_outcomes()
+    ensures { (objects : ObjectMap) (c : Case) (count : ℕ) (pairs : List (Nid × Oid))
+        (a b : List (Nid × Outcome)) → AreOutcomes objects c count pairs a
+        → AreOutcomes objects c count pairs b → a ≡ b }
+{}
+
+/// An offer is judged in one way, and is then not refused whole.
+pub fn one_verdict()
+    ensures one { (objects : ObjectMap) (keyring : Contents) (state : State) (offer : Offer)
+        (scope : Scope) (a b : Judged) → IsJudged objects keyring state offer scope a
+        → IsJudged objects keyring state offer scope b → a ≡ b }
+    ensures never_both { (objects : ObjectMap) (keyring : Contents) (state : State) (offer : Offer)
+        (scope : Scope) (a : Judged) (why : Whole) → IsJudged objects keyring state offer scope a
+        → IsRefusedWhole objects keyring state offer scope why → ⊥ }
+{}
+
+/// What was judged under some scope and not refused whole is allowed again with every scope, as the
+/// next identity and the remotes that advanced: it is refused nothing, does not leave another
+/// identity, and advances the same remotes.
+pub fn judged_is_allowed()
+    ensures { (objects : ObjectMap) (keyring : Contents) (state : State) (offer : Offer)
+        (scope : Scope) (judged : Judged) → IsJudged objects keyring state offer scope judged
+        → Allows objects keyring state judged.next_id judged.advanced }
+{}
+
+/// Of rising remotes the one list with exactly some rising ones replaced or added is `replaced`.
+pub fn one_list_of_remotes()
+    ensures is { (old advanced : List (Nid × Oid)) → IsRising old → IsRising advanced
+        → Replaces old advanced (replaced old advanced) }
+    ensures one { (old advanced new : List (Nid × Oid)) → IsRising old → IsRising advanced
+        → Replaces old advanced new → new ≡ replaced old advanced }
+{}
