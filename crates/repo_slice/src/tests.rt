@@ -46,7 +46,16 @@ fn push_times(bytes: &mut Vec<u8>, piece: &[u8], times: usize) -> Result<(), All
     Ok(())
 }
 
-// Adds what a mark and the digits behind it stand for.
+// How many digits stand behind a mark; none behind any other byte.
+fn digits_behind(byte: u8) -> usize {
+    match byte {
+        b'%' | b'#' => 3,
+        b'&' | b'~' => 2,
+        _ => 0,
+    }
+}
+
+// Adds what a byte and the digits behind it stand for.
 fn push_marked(
     alloc: Global,
     bytes: &mut Vec<u8>,
@@ -58,42 +67,38 @@ fn push_marked(
         b'%' => bytes.extend_from_slice(&name_of(made, digits).0)?,
         b'#' => bytes.extend_from_slice(name_of(made, digits).text(alloc)?.as_slice())?,
         b'&' => push_times(bytes, digits, 32)?,
-        _ => push_times(bytes, &hex::decode(alloc, digits)?, 64)?,
+        b'~' => push_times(bytes, &hex::decode(alloc, digits)?, 64)?,
+        _ => bytes.push(mark)?,
     }
     Ok(())
-}
-
-// How many digits stand behind a mark; none behind any other byte.
-fn digits_behind(byte: u8) -> usize {
-    match byte {
-        b'%' | b'#' => 3,
-        b'&' | b'~' => 2,
-        _ => 0,
-    }
 }
 
 // The bytes that a template stands for.
 fn filled(alloc: Global, made: &[Made], template: &[u8]) -> Result<Vec<u8>, Fail> {
     let mut bytes = Vec::new(alloc);
-    let mut rest = template;
-    while let Some((byte, behind)) = rest.split_first() {
-        match behind.split_at_checked(digits_behind(*byte)) {
-            Some(([], _)) | None => {
-                bytes.push(*byte)?;
-                rest = behind;
-            }
-            Some((digits, later)) => {
-                push_marked(alloc, &mut bytes, made, *byte, digits)?;
-                rest = later;
-            }
+    let mut digits = Vec::new(alloc);
+    let mut mark = 0;
+    for byte in template {
+        if digits.len() < digits_behind(mark) {
+            digits.push(*byte)?;
+        } else {
+            mark = *byte;
+            digits.clear();
+        }
+        if digits.len() == digits_behind(mark) {
+            push_marked(alloc, &mut bytes, made, mark, &digits)?;
         }
     }
     Ok(bytes)
 }
 
+fn all_objects() -> &'static [(Kind, &'static [u8])] {
+    OBJECTS
+}
+
 fn make_all(alloc: Global) -> Result<Vec<Made>, Fail> {
     let mut made = Vec::new(alloc);
-    for (kind, template) in &OBJECTS {
+    for (kind, template) in all_objects() {
         let content = filled(alloc, &made, template)?;
         let name = object_name(*kind, &content);
         made.push(Made {
@@ -105,10 +110,18 @@ fn make_all(alloc: Global) -> Result<Vec<Made>, Fail> {
     Ok(made)
 }
 
+fn all_lines() -> &'static [&'static [u8]] {
+    LINES
+}
+
+fn all_keyrings() -> &'static [&'static [usize]] {
+    KEYRINGS
+}
+
 fn keyring_of(alloc: Global, which: usize) -> Result<Keyring, Fail> {
     let mut text = Vec::new(alloc);
-    for line in KEYRINGS.get(which).copied().unwrap_or(&[]) {
-        let template = LINES.get(*line).copied().unwrap_or(b"");
+    for line in all_keyrings().get(which).copied().unwrap_or(&[]) {
+        let template = all_lines().get(*line).copied().unwrap_or(b"");
         text.extend_from_slice(&filled(alloc, &[], template)?)?;
         text.push(b'\n')?;
     }
@@ -337,11 +350,15 @@ fn follow(alloc: Global, made: &[Made], scene: &mut Scene, word: &[u8]) -> Resul
     Ok(true)
 }
 
+fn all_cases() -> &'static [&'static [u8]] {
+    CASES
+}
+
 #[test]
 fn offers_are_judged(rt: HostRuntime) -> Result<(), Fail> {
     let alloc = rt.alloc();
     let made = make_all(alloc)?;
-    for case in &CASES {
+    for case in all_cases() {
         let mut scene = Scene::new(alloc)?;
         for word in case.split(|byte| *byte == b' ') {
             assert!(rt; follow(alloc, &made, &mut scene, word)?);
@@ -370,7 +387,7 @@ fn crowd(alloc: Global, count: usize) -> Result<Remotes, NoMemory> {
 // What becomes of the two remotes beside so many others. None where the offer is refused whole.
 fn beside(alloc: Global, made: &[Made], others: usize) -> Result<Option<Judged>, Fail> {
     let mut scene = Scene::new(alloc)?;
-    let case = CASES.get(TWO_DELEGATES).copied().unwrap_or(b"");
+    let case = all_cases().get(TWO_DELEGATES).copied().unwrap_or(b"");
     for word in case.split(|byte| *byte == b' ') {
         if word.starts_with(b"j") {
             break;

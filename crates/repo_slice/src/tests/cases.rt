@@ -1,7 +1,7 @@
 // Offers that an independent program judged, with what it says of them.
 
 /// Lines of keyrings, as templates.
-pub(crate) const LINES: [&[u8]; 39] = [
+pub(crate) const LINES: &[&[u8]] = &[
     b"accept &01 57c437b24f1989af9867ab1f93fb5cd0bddc011a4094840da340c1f0e5849586 &01&01",
     b"accept &01 f8abecbec4411b82896c0b9f68710159349809e5ded2da7a7ce5ec8bca882124 &01&01",
     b"accept &01 ef4e34674d3294e29ed0f6664f28a35e5727d21031be974449ed441b5196917f &01&01",
@@ -44,7 +44,7 @@ pub(crate) const LINES: [&[u8]; 39] = [
 ];
 
 /// Keyrings, as numbers of lines.
-pub(crate) const KEYRINGS: [&[usize]; 18] = [
+pub(crate) const KEYRINGS: &[&[usize]] = &[
     &[0],
     &[1],
     &[2],
@@ -72,7 +72,7 @@ pub(crate) const KEYRINGS: [&[usize]; 18] = [
 /// identity and a remote of an offer; `*` and `F`, the scope; `+`, an object that is put; `s` and
 /// `t`, the nodes that are asked for; `w`, a whole refusal; `j`, the outcome of the identity with
 /// the next one, and `x`, that of a remote; `@` and `d`, the head once it is installed.
-pub(crate) const CASES: [&[u8]; 103] = [
+pub(crate) const CASES: &[&[u8]] = &[
     b"k0 n0 o3 r0110 * +1 +3 +2 +0 s01 +10 +7 +9 +8 t01 +6 +4 +5 jf3 x01a @6 o3 r0110 * s t js3 \
     x01s @6",
     b"k0 n0 o3 r0110 F +1 +3 +2 +0 s01 +10 +7 +9 +8 t01 +6 +4 +5 jf3 x01a @6 o3 r0110 F s t js3 \

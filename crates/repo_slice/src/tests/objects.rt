@@ -4,7 +4,7 @@ use git_object::Kind;
 /// The objects, each with a template of its content: `%` and a number stand for the bytes of the
 /// name of that object before it, `#` and a number for its digits, `&` and two digits for 32 times
 /// these digits, and `~` and two digits for 64 times this byte.
-pub(crate) const OBJECTS: [(Kind, &[u8]); 201] = [
+pub(crate) const OBJECTS: &[(Kind, &[u8])] = &[
     (
         Kind::Blob,
         b"{\"delegates\":[\"did:key:fed&0101\"],\"payload\":{\"xyz.radicle.project\":{\"defaul\
