@@ -92,20 +92,34 @@ fn filled(alloc: Global, made: &[Made], template: &[u8]) -> Result<Vec<u8>, Fail
     Ok(bytes)
 }
 
-fn all_objects() -> &'static [(Kind, &'static [u8])] {
+fn all_objects() -> &'static [&'static [u8]] {
     OBJECTS
+}
+
+fn kind_of(number: u8) -> Kind {
+    match number {
+        b'2' => Kind::Tree,
+        b'3' => Kind::Blob,
+        b'4' => Kind::Tag,
+        _ => Kind::Commit,
+    }
+}
+
+fn make(alloc: Global, made: &[Made], object: &[u8]) -> Result<Made, Fail> {
+    let kind = kind_of(object.first().copied().unwrap_or(0));
+    let content = filled(alloc, made, object.get(1..).unwrap_or(b""))?;
+    let name = object_name(kind, &content);
+    Ok(Made {
+        kind,
+        content,
+        name,
+    })
 }
 
 fn make_all(alloc: Global) -> Result<Vec<Made>, Fail> {
     let mut made = Vec::new(alloc);
-    for (kind, template) in all_objects() {
-        let content = filled(alloc, &made, template)?;
-        let name = object_name(*kind, &content);
-        made.push(Made {
-            kind: *kind,
-            content,
-            name,
-        })?;
+    for object in all_objects() {
+        made.push(make(alloc, &made, object)?)?;
     }
     Ok(made)
 }
