@@ -7,7 +7,7 @@ use canonical_head::answer::Head;
 use cases::{CASES, KEYRINGS, LINES};
 use git_object::{Kind, name_of as object_name};
 use keyring::Keyring;
-use objects::OBJECTS;
+use objects::{FIRST, SECOND, THIRD};
 use rad_base::{Bytes, Nid, Nids, NoMemory, Offer, Oid, Oids, Remotes, Rid, until};
 use std::alloc::{AllocError, Global};
 use std::test::Fail;
@@ -92,10 +92,6 @@ fn filled(alloc: Global, made: &[Made], template: &[u8]) -> Result<Vec<u8>, Fail
     Ok(bytes)
 }
 
-fn all_objects() -> &'static [&'static [u8]] {
-    OBJECTS
-}
-
 fn kind_of(number: u8) -> Kind {
     match number {
         b'2' => Kind::Tree,
@@ -116,11 +112,32 @@ fn make(alloc: Global, made: &[Made], object: &[u8]) -> Result<Made, Fail> {
     })
 }
 
+fn first_objects() -> &'static [&'static [u8]] {
+    FIRST
+}
+
+fn second_objects() -> &'static [&'static [u8]] {
+    SECOND
+}
+
+fn third_objects() -> &'static [&'static [u8]] {
+    THIRD
+}
+
+// Makes these objects behind others.
+fn make_some(alloc: Global, made: &mut Vec<Made>, objects: &[&[u8]]) -> Result<(), Fail> {
+    for object in objects {
+        let next = make(alloc, made, object)?;
+        made.push(next)?;
+    }
+    Ok(())
+}
+
 fn make_all(alloc: Global) -> Result<Vec<Made>, Fail> {
     let mut made = Vec::new(alloc);
-    for object in all_objects() {
-        made.push(make(alloc, &made, object)?)?;
-    }
+    make_some(alloc, &mut made, first_objects())?;
+    make_some(alloc, &mut made, second_objects())?;
+    make_some(alloc, &mut made, third_objects())?;
     Ok(made)
 }
 

@@ -1,10 +1,10 @@
 // Objects of repositories that an independent program made.
 
-/// The objects, each with the number of its kind, as in a pack of Git, and a template of its
+/// Objects, each with the number of its kind, as in a pack of Git, and a template of its
 /// content: `%` and a number stand for the bytes of the name of that object before it, `#` and a
 /// number for its digits, `&` and two digits for 32 times these digits, and `~` and two digits for
 /// 64 times this byte.
-pub(crate) const OBJECTS: &[&[u8]] = &[
+pub(crate) const FIRST: &[&[u8]] = &[
     b"3{\"delegates\":[\"did:key:fed&0101\"],\"payload\":{\"xyz.radicle.project\":{\"defaultBranc\
     h\":\"master\",\"description\":\"\",\"name\":\"gen\"}},\"threshold\":1}",
     b"2100644 radicle.json\0%000",
@@ -78,6 +78,10 @@ pub(crate) const OBJECTS: &[&[u8]] = &[
     b"2100644 n\0%066",
     b"1tree #067\nparent #065\nauthor a <a@b> 0 +0000\ncommitter a <a@b> 0 +0000\n\n17\n",
     b"318\n",
+];
+
+/// More objects.
+pub(crate) const SECOND: &[&[u8]] = &[
     b"2100644 n\0%069160000 sub\0wwwwwwwwwwwwwwwwwwww",
     b"1tree #070\nparent #068\nauthor a <a@b> 0 +0000\ncommitter a <a@b> 0 +0000\n\n18\n",
     b"4object #071\ntype commit\ntag v1\ntagger a <a@b> 0 +0000\n\nv1\n",
@@ -155,6 +159,10 @@ pub(crate) const OBJECTS: &[&[u8]] = &[
     b"3~99",
     b"2100644 refs\0%007100644 signature\0%137",
     b"1tree #138\nauthor a <a@b> 0 +0000\ncommitter a <a@b> 0 +0000\n\nsigrefs\n",
+];
+
+/// The last objects.
+pub(crate) const THIRD: &[&[u8]] = &[
     b"3{\"delegates\":[\"did:key:fed0&121\",\"did:key:fed01&32\",\"did:key:fed01&43\"],\"payload\
     \":{\"xyz.radicle.project\":{\"defaultBranch\":\"master\",\"description\":\"\",\"name\":\"wor\
     ld\"}},\"threshold\":1}",
