@@ -24,7 +24,8 @@ use Rattle.repo_slice.specs.Outcomes.{AreOutcomes, Case, IsOutcome, IsWhole, adv
 use Rattle.rad_base.specs.Order.{commit_of}
 use Rattle.repo_slice.specs.Standing.{Replaces, delegates_in, has_next}
 use Rattle.repo_slice.specs.Verdicts.{AreVerdicts, IsJudged, IsNextState, case_of}
-use Rattle.rad_base.proofs.Lookups.{among_found, found_among, node_of, nodes_differ}
+use Rattle.rad_base.specs.Order.{node_of}
+use Rattle.rad_base.proofs.Lookups.{among_found, found_among, nodes_differ}
 
 -- an option that holds nothing
 nothing_from : {X : Type 0} (o : Option X) → is_some o ≡ false → o ≡ None

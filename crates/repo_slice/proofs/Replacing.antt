@@ -8,11 +8,12 @@ use Rattle.std.specs.declared.cmp.Ordering.{Ordering}
 use Rattle.std.specs.declared.cmp.Ordering.TheVariants.{Less, Equal, Greater}
 use Rattle.rad_base.specs.declared.names.Nid.{Nid}
 use Rattle.rad_base.specs.declared.names.Oid.{Oid}
-use Rattle.rad_base.specs.Order.{IsRising, commit_of, nid_cmp}
+use Rattle.rad_base.specs.Order.{IsRising, commit_of, nid_cmp, node_of}
 use Rattle.rad_base.proofs.Members.{contains_cases, contains_head, contains_one, contains_tail}
 use Rattle.rad_base.proofs.NameOrder.{equal_from_is_eq, equals_itself, nid_exact, nid_total, not_below_itself}
 use Rattle.rad_base.proofs.Options.{some_is}
-use Rattle.rad_base.proofs.Lookups.{below_all, found_among, rising_tail}
+use Rattle.rad_base.proofs.Lookups.{below_all, found_among}
+use Rattle.rad_base.proofs.Rising.{rises_tail}
 use Rattle.repo_slice.specs.Standing.{Replaces, next_commit, replaced}
 
 -- ---- the order
@@ -48,7 +49,7 @@ same_key e v (y ∷ ys) r = r
 -- remotes stay rising as one is put
 rising_insert : (xs : List (Nid × Oid)) (k : Nid) (v : Oid) → IsRising xs → IsRising (insert_entry nid_cmp xs k v)
 rising_insert [] k v r = tt
-rising_insert (e ∷ es) k v r = by_order (rising_insert es k v (rising_tail e es r)) (nid_cmp k e.0) refl
+rising_insert (e ∷ es) k v r = by_order (rising_insert es k v (rises_tail node_of nid_cmp e es r)) (nid_cmp k e.0) refl
   where
     by_order : IsRising (insert_entry nid_cmp es k v) → (o : Ordering) → nid_cmp k e.0 ≡ o
         → IsRising (match_ordering o ((k, v) ∷ e ∷ es) ((e.0, v) ∷ es) (e ∷ insert_entry nid_cmp es k v))
@@ -82,7 +83,7 @@ at_own node = equals_itself node.0
 found_insert : (xs : List (Nid × Oid)) (k : Nid) (v : Oid) (node : Nid) → IsRising xs
     → commit_of (insert_entry nid_cmp xs k v) node ≡ cond (is_at (nid_cmp node) k) (Some v) (commit_of xs node)
 found_insert [] k v node r = refl
-found_insert (e ∷ es) k v node r = by_order (found_insert es k v node (rising_tail e es r)) (nid_cmp k e.0) refl
+found_insert (e ∷ es) k v node r = by_order (found_insert es k v node (rises_tail node_of nid_cmp e es r)) (nid_cmp k e.0) refl
   where
     equal_at : (b : Bool) → cond b (Some v) (commit_of es node) ≡ cond b (Some v) (cond b (Some e.1) (commit_of es node))
     equal_at true = refl
@@ -119,7 +120,7 @@ found_replaced : (advanced old : List (Nid × Oid)) (node : Nid) → IsRising ol
     → commit_of (replaced old advanced) node ≡ next_commit old advanced node
 found_replaced [] old node r up = refl
 found_replaced (p ∷ advanced) old node r up =
-    found_replaced advanced (insert_entry nid_cmp old p.0 p.1) node (rising_insert old p.0 p.1 r) (rising_tail p advanced up)
+    found_replaced advanced (insert_entry nid_cmp old p.0 p.1) node (rising_insert old p.0 p.1 r) (rises_tail node_of nid_cmp p advanced up)
     ∙ ap (λ (x : Option Oid). option_or (commit_of advanced node) x) (found_insert old p.0 p.1 node r)
     ∙ by_test (is_at (nid_cmp node) p.0) refl
   where
@@ -168,7 +169,7 @@ pub same_remotes : (xs ys : List (Nid × Oid)) → IsRising xs → IsRising ys �
 same_remotes [] [] r up same = refl
 same_remotes [] (y ∷ ys) r up same = absurd (nothing_is_some y.1 (same y.0 ∙ first_found y ys))
 same_remotes (x ∷ xs) [] r up same = absurd (nothing_is_some x.1 (sym (same x.0) ∙ first_found x xs))
-same_remotes (x ∷ xs) (y ∷ ys) r up same = by_order (same_remotes xs ys (rising_tail x xs r) (rising_tail y ys up)) (nid_cmp x.0 y.0) refl
+same_remotes (x ∷ xs) (y ∷ ys) r up same = by_order (same_remotes xs ys (rises_tail node_of nid_cmp x xs r) (rises_tail node_of nid_cmp y ys up)) (nid_cmp x.0 y.0) refl
   where
     by_order : (((node : Nid) → commit_of xs node ≡ commit_of ys node) → xs ≡ ys) → (o : Ordering) → nid_cmp x.0 y.0 ≡ o → x ∷ xs ≡ y ∷ ys
     by_order later Less h = absurd (nothing_is_some x.1 (sym (below_first x.0 y ys up h) ∙ sym (same x.0) ∙ first_found x xs))
