@@ -1,7 +1,7 @@
 -- Lists that grow at their ends by what they lack.
-use Rattle.std.proofs.Common.{◌≡◌, ℕ, ◌+◌, ◌<◌, Bool, true, false, cond, List, [], ◌∷◌, ◌++◌, length, take, get_or, Some, sym, ap, subst, inl, inr, ◌⊎◌, ⊎_elim, ◌∙◌, append_assoc, append-nil, arith}
+use Rattle.std.proofs.Common.{◌≡◌, ℕ, ◌+◌, ◌<◌, Bool, true, false, cond, List, [], ◌∷◌, ◌++◌, length, take, get_or, Some, sym, ap, subst, inl, inr, ◌⊎◌, ⊎_elim, ◌∙◌, append_assoc, append-nil, length-append, arith}
 use Rattle.std.specs.Prelude.{Contains, slice_get, map, filter}
-use Rattle.std.proofs.lemmas.List.{take_more, take-append-le, map_push, map_more}
+use Rattle.std.proofs.lemmas.List.{nil_from_length, take_more, take-append-le, map_push, map_more}
 use Rattle.std.proofs.lemmas.List.Elements.{Contains-append_left, Contains-append_right, Contains-push, Contains-push_cases, Contains-append_cases, filter-append}
 use Rattle.std.proofs.lemmas.Option.{slice_get_within, get_or_from_slice_get}
 use Rattle.rad_base.proofs.Members.{contains_nothing}
@@ -15,19 +15,16 @@ pub extends_same : {X : Type 0} {found found' : List X} → found' ≡ found →
 extends_same {X} {found} {found'} e = record {
   more = [];
   is = e ∙ sym (append-nil found);
+  few = omega arith;
   has = λ x c. absurd (contains_nothing x c);
   from = λ x c. absurd (contains_nothing x c);
 }
 
--- all of a list is added, though some of it was there
-pub extends_by : {X : Type 0} {found found' : List X} (xs : List X) → found' ≡ found ++ xs
-    → Extends found xs found'
-extends_by {X} {found} {found'} xs e = record {
-  more = xs;
-  is = e;
-  has = λ x c. subst (λ (ys : List X). Contains ys x) (sym e) (Contains-append_right found xs x c);
-  from = λ x c. c;
-}
+-- where nothing is to be added the list stays
+pub extends_none : {X : Type 0} {found found' : List X} → Extends found [] found' → found' ≡ found
+extends_none {X} {found} {found'} h =
+    let none : h.more ≡ [] = nil_from_length h.more (omega (arith, h.few)) in
+    h.is ∙ ap (λ (xs : List X). found ++ xs) none ∙ append-nil found
 
 -- nothing is added, since all of it was there
 pub extends_there : {X : Type 0} {found found' : List X} (xs : List X) → found' ≡ found
@@ -35,6 +32,7 @@ pub extends_there : {X : Type 0} {found found' : List X} (xs : List X) → found
 extends_there {X} {found} {found'} xs e has = record {
   more = [];
   is = e ∙ sym (append-nil found);
+  few = omega arith;
   has = λ x c. subst (λ (ys : List X). Contains ys x) (sym e) (has x c);
   from = λ x c. absurd (contains_nothing x c);
 }
@@ -44,6 +42,7 @@ pub extends_nothing : {X : Type 0} {xs new : List X} → new ≡ xs → Extends 
 extends_nothing {X} {xs} {new} e = record {
   more = xs;
   is = e;
+  few = omega arith;
   has = λ x c. subst (λ (ys : List X). Contains ys x) (sym e) c;
   from = λ x c. c;
 }
@@ -54,12 +53,14 @@ pub extends_push : {X : Type 0} {old xs cur new : List X} {x : X} → Extends ol
 extends_push {X} {old} {xs} {cur} {new} {x} h (inl (k, e)) = record {
   more = h.more;
   is = e ∙ h.is;
+  few = omega (arith, h.few, length-append xs (x ∷ []));
   has = λ y c. subst (λ (ys : List X). Contains ys y) (sym e)
       (⊎_elim (λ a. h.has y a) (λ a. subst (λ (z : X). Contains cur z) a k) (Contains-push_cases xs x y c));
   from = λ y c. Contains-append_left xs (x ∷ []) y (h.from y c);
 }
 extends_push {X} {old} {xs} {cur} {new} {x} h (inr (k, e)) = record {
   more = h.more ++ x ∷ [];
+  few = omega (arith, h.few, length-append xs (x ∷ []), length-append h.more (x ∷ []));
   is = e ∙ ap (λ (ys : List X). ys ++ x ∷ []) h.is ∙ append_assoc old h.more (x ∷ []);
   has = λ y c. subst (λ (ys : List X). Contains ys y) (sym e)
       (⊎_elim (λ a. Contains-append_left cur (x ∷ []) y (h.has y a)) (λ a. subst (λ (z : X). Contains (cur ++ x ∷ []) z) a (Contains-push cur x)) (Contains-push_cases xs x y c));

@@ -5,6 +5,7 @@ use Rattle.std.specs.BTreeSet.{BTreeSet, contains}
 use Rattle.std.proofs.lemmas.Bool.{cases_Bool}
 use Rattle.rad_base.proofs.Options.{one_value}
 use Rattle.rad_base.specs.declared.names.Oid.{Oid}
+use Rattle.rad_base.specs.Lists.{AllDiffer}
 use Rattle.rad_base.specs.Order.{oid_cmp}
 use Rattle.commit_graph.specs.declared.root.Root.{Root}
 use Rattle.commit_graph.specs.declared.answer.Closure.{Closure}
@@ -14,12 +15,12 @@ use Rattle.commit_graph.specs.Objects.{Object, ObjectMap}
 use Rattle.commit_graph.specs.Pairs.{Accepts, IsFit, IsLink}
 use Rattle.commit_graph.specs.Walks.{Reached}
 use Rattle.commit_graph.specs.Closures.{IsReached, IsHeld, IsClosed, HasName}
-use Rattle.commit_graph.specs.Beyond.{IsKnown, IsClosedName, AllClosed, IsLinkBeyond, IsReachedBeyond, CoversBeyond, CoversFitBeyond, GrowsBeyond, link_count}
+use Rattle.commit_graph.specs.Beyond.{IsKnown, IsClosedName, AllClosed, IsLinkBeyond, IsReachedBeyond, CoversBeyond, CoversFitBeyond, CoversPairsBeyond, GrowsBeyond, link_count}
 use Rattle.rad_base.proofs.Members.{contains_at, contains_head, contains_one}
 use Rattle.commit_graph.proofs.Walked.{reached_root, reached_step, reached_stays, reached_along}
 use Rattle.commit_graph.proofs.Spread.{Spread, spread_end}
 use Rattle.commit_graph.proofs.ClosureTurns.{Covers}
-use Rattle.commit_graph.proofs.Repeats.{sum_by-le, sum_by-one}
+use Rattle.commit_graph.proofs.Repeats.{length_within, sum_by-le, sum_by-one}
 use Rattle.commit_graph.proofs.FactsHold.{IsQueuedName, IsOpenedName}
 use Rattle.commit_graph.proofs.BeyondTurns.{Search}
 
@@ -88,6 +89,15 @@ module _ (m : ObjectMap) (known : BTreeSet Oid) (roots : List Root) (i : ℕ) (q
       let a = sum_by-le (λ (n : Oid). 1) h.looked names h.holds.looked_once (λ n c. queued_covered names cover n (h.holds.looked_queued n c)) in
       let b = sum_by-le (link_count m) h.opened fit h.holds.opened_once (λ n c. opened_covered fit cover_fit n (h.holds.opened_queued n c)) in
       omega (arith, a, b, sum_by-one h.looked, sum_by-one names, h.cost, h.holds.lengths)
+
+  -- of pairs that differ each is tested once
+  pub cost_once : AllDiffer queue → (names : List Oid) (pairs : List Root)
+      → CoversBeyond m known roots names → CoversPairsBeyond m known roots pairs
+      → ticks ≤ start + length names + length pairs
+  cost_once once names pairs cover cover_pairs =
+      let a = sum_by-le (λ (n : Oid). 1) h.looked names h.holds.looked_once (λ n c. queued_covered names cover n (h.holds.looked_queued n c)) in
+      let b = length_within queue pairs once (λ x c. cover_pairs x (h.spread.sound x c)) in
+      omega (arith, a, b, sum_by-one h.looked, sum_by-one names, h.cost, h.within)
 
   -- there is a root while there is a pair
   pub has_root : (x : Root) → slice_get queue i ≡ Some x → 1 ≤ length roots

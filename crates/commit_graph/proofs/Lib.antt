@@ -9,7 +9,6 @@ pub mod Growing
 pub mod HistoryWalks
 pub mod Holdings
 pub mod JoinedClosures
-pub mod Learned
 pub mod LeastNames
 pub mod LookUps
 pub mod ManyRoots

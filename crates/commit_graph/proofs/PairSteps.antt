@@ -122,6 +122,12 @@ pub read_shows : (objects : ObjectMap) (p : Root) (kind : Kind) (bytes : List �
 read_shows objects p kind bytes (Ok shown) there expected h = shows_read objects p kind bytes shown there expected h
 read_shows objects p kind bytes (Err fault) there expected h = tt
 
+-- what holds of each value of a kind holds of that of a result
+pub where_ok : {T E : Type 0} {P Q : T → Type 0} → ((x : T) → P x → Q x) → (result : Result T E)
+    → IfOk result P → IfOk result Q
+where_ok more (Ok x) h = more x h
+where_ok more (Err e) h = tt
+
 -- a pair that is missing or unfit lets nothing follow
 pub ends_follow : {objects : ObjectMap} {p : Root} {shown : Looked} {old new : List Root}
     → Shows objects p shown → (shown ≡ looked.Missing) ⊎ (shown ≡ looked.Unfit) → new ≡ old

@@ -47,6 +47,10 @@ abbrev pub CoversBeyond : ObjectMap → BTreeSet Oid → List Root → List Oid 
 CoversBeyond objects known roots names =
     (oid : Oid) → IsReachedBeyond objects known roots oid → contains oid_cmp known oid ≡ false → Contains names oid
 
+-- each pair to which a walk over no known name leads is among these
+abbrev pub CoversPairsBeyond : ObjectMap → BTreeSet Oid → List Root → List Root → Type 0
+CoversPairsBeyond objects known roots pairs = (pair : Root) → Reached (IsLinkBeyond objects known) roots pair → Contains pairs pair
+
 -- a walk over no known name leads from a root to a pair of this name, whose object is as expected and well formed
 pub record IsFitBeyond (objects : ObjectMap) (known : BTreeSet Oid) (roots : List Root) (oid : Oid) : Type 0 where
   pub pair : Root

@@ -1,6 +1,5 @@
 -- What is known of a name that was looked up, and what the test of a pair comes to.
-use Rattle.std.specs.Prelude.{◌≡◌, ℕ, ◌+◌, ◌⊎◌, true, false, cond, List, [], Option, Some, None, option_map}
-use Rattle.std.specs.Option.{unwrap_or}
+use Rattle.std.specs.Prelude.{◌≡◌, ℕ, ◌+◌, ◌⊎◌, true, false, cond, List, [], Option, Some, None}
 use Rattle.std.specs.BTreeMap.{get, is_at}
 use Rattle.std.specs.BTreeSet.{BTreeSet, contains}
 use Rattle.rad_base.specs.declared.names.Oid.{Oid}
@@ -12,7 +11,7 @@ use Rattle.commit_graph.specs.declared.root.Root.{Root}
 use Rattle.commit_graph.specs.declared.look.Looked.{Looked}
 use Rattle.commit_graph.specs.declared.look.Looked.TheVariants as looked
 use Rattle.commit_graph.specs.declared.facts.Fact.{Fact}
-use Rattle.commit_graph.specs.declared.facts.Fact.TheVariants.{Missing, Malformed, Formed}
+use Rattle.commit_graph.specs.declared.facts.Fact.TheVariants.{Missing, Malformed, Taken, Waiting}
 use Rattle.commit_graph.specs.declared.facts.Facts.{Facts}
 use Rattle.commit_graph.specs.Objects.{ObjectMap}
 use Rattle.commit_graph.specs.Pairs.{Accepts}
@@ -35,35 +34,19 @@ pub record IsFormed (objects : ObjectMap) (oid : Oid) (kind : Kind) : Type 0 whe
 abbrev pub IsFact : ObjectMap → Oid → Fact → Type 0
 IsFact objects oid Missing = objects oid ≡ None
 IsFact objects oid Malformed = IsMalformed objects oid
-IsFact objects oid (Formed kind) = IsFormed objects oid kind
+IsFact objects oid (Taken kind) = IsFormed objects oid kind
+IsFact objects oid (Waiting kind found) = IsFormed objects oid kind × (found.items ≡ links_in (objects oid))
+
+-- the same of a name whose links were not taken yet
+abbrev pub IsRead : ObjectMap → Oid → Fact → Type 0
+IsRead objects oid Missing = objects oid ≡ None
+IsRead objects oid Malformed = IsMalformed objects oid
+IsRead objects oid (Taken kind) = ⊥
+IsRead objects oid (Waiting kind found) = IsFormed objects oid kind × (found.items ≡ links_in (objects oid))
 
 -- what is known of a name
 abbrev pub fact_in : Facts → Oid → Option Fact
-fact_in facts oid = get oid_cmp facts.facts oid
-
--- the links of a name that wait
-abbrev pub waiting_in : Facts → Oid → Option (List LinkTo)
-waiting_in facts oid = option_map (λ v. v.items) (get oid_cmp facts.waiting oid)
-
--- the links that wait once a name has this fact
-abbrev pub waiting_after : ObjectMap → Fact → Oid → (Oid → Option (List LinkTo)) → Oid → Option (List LinkTo)
-waiting_after objects Missing oid waiting other = waiting other
-waiting_after objects Malformed oid waiting other = waiting other
-waiting_after objects (Formed kind) oid waiting other =
-    cond (is_at (oid_cmp oid) other) (Some (links_in (objects oid))) (waiting other)
-
--- a name of which nothing was known was looked up, in one step
-pub record IsLookedUp (objects : ObjectMap) (oid : Oid) (old new : Facts) (fact : Fact) (before after : ℕ) : Type 0 where
-  pub unknown : fact_in old oid ≡ None
-  pub is : IsFact objects oid fact
-  pub facts : (other : Oid) → fact_in new other ≡ cond (is_at (oid_cmp oid) other) (Some fact) (fact_in old other)
-  pub waiting : (other : Oid) → waiting_in new other ≡ waiting_after objects fact oid (waiting_in old) other
-  pub cost : after ≡ before + 1
-
--- the fact was known, or the name was looked up
-abbrev pub IsLearned : ObjectMap → Oid → Facts → Facts → Fact → ℕ → ℕ → Type 0
-IsLearned objects oid old new fact before after =
-    ((fact_in old oid ≡ Some fact) × (new ≡ old) × (after ≡ before)) ⊎ IsLookedUp objects oid old new fact before after
+fact_in facts oid = get oid_cmp facts.by_name oid
 
 -- the pair has an object, of the expected kind
 pub record IsAccepted (objects : ObjectMap) (p : Root) : Type 0 where
@@ -78,18 +61,31 @@ IsFitWith looked.Missing found = ⊥
 IsFitWith looked.Unfit found = ⊥
 IsFitWith (looked.Fit links) found = links.items ≡ found
 
--- the links that waited at a name were taken
-pub record IsTaken (oid : Oid) (mid new : Facts) (shown : Looked) : Type 0 where
-  pub shows : IsFitWith shown (unwrap_or (waiting_in mid oid) [])
-  pub facts : (other : Oid) → fact_in new other ≡ fact_in mid other
-  pub waiting : (other : Oid) → waiting_in new other ≡ cond (is_at (oid_cmp oid) other) None (waiting_in mid other)
+-- a pair whose name has an object of this kind is fit with these links, which are taken, or unfit
+abbrev pub Takes : Root → Kind → List LinkTo → Fact → Fact → Looked → Type 0
+Takes p kind found old new shown =
+    (Accepts p.kind kind × IsFitWith shown found × (new ≡ Taken kind))
+    ⊎ ((Accepts p.kind kind → ⊥) × (shown ≡ looked.Unfit) × (new ≡ old))
 
--- what a pair shows by the fact of its name
-abbrev pub ShowsFact : Root → Fact → Facts → Facts → Looked → Type 0
-ShowsFact p Missing mid new shown = (shown ≡ looked.Missing) × (new ≡ mid)
-ShowsFact p Malformed mid new shown = (shown ≡ looked.Unfit) × (new ≡ mid)
-ShowsFact p (Formed kind) mid new shown =
-    ((Accepts p.kind kind → ⊥) × (shown ≡ looked.Unfit) × (new ≡ mid)) ⊎ (Accepts p.kind kind × IsTaken p.oid mid new shown)
+-- what a pair shows by the fact of its name, and the fact that is then known
+abbrev pub ShowsFact : Root → Fact → Fact → Looked → Type 0
+ShowsFact p Missing new shown = (shown ≡ looked.Missing) × (new ≡ Missing)
+ShowsFact p Malformed new shown = (shown ≡ looked.Unfit) × (new ≡ Malformed)
+ShowsFact p (Taken kind) new shown = Takes p kind [] (Taken kind) new shown
+ShowsFact p (Waiting kind found) new shown = Takes p kind found.items (Waiting kind found) new shown
+
+-- the fact of a name was known, or it was looked up in one step
+abbrev pub IsLearned : ObjectMap → Oid → Option Fact → Fact → ℕ → ℕ → Type 0
+IsLearned objects oid known fact before after =
+    ((known ≡ Some fact) × (after ≡ before)) ⊎ ((known ≡ None) × IsRead objects oid fact × (after ≡ before + 1))
+
+-- a pair was tested by the fact of its name
+pub record IsTestedNew (objects : ObjectMap) (p : Root) (old new : Facts) (shown : Looked) (before after : ℕ) : Type 0 where
+  pub fact : Fact
+  pub then_fact : Fact
+  pub learned : IsLearned objects p.oid (fact_in old p.oid) fact before after
+  pub shows : ShowsFact p fact then_fact shown
+  pub facts : (other : Oid) → fact_in new other ≡ cond (is_at (oid_cmp p.oid) other) (Some then_fact) (fact_in old other)
 
 -- a pair of a known name was tested by the kind of its object
 pub record IsTestedKnown (objects : ObjectMap) (known : BTreeSet Oid) (p : Root) (old new : Facts) (shown : Looked) (before after : ℕ) : Type 0 where
@@ -98,15 +94,8 @@ pub record IsTestedKnown (objects : ObjectMap) (known : BTreeSet Oid) (p : Root)
   pub same : new ≡ old
   pub cost : after ≡ before + 1
 
--- a pair of another name was tested by what is learned of its name
-pub record IsTestedNew (objects : ObjectMap) (known : BTreeSet Oid) (p : Root) (old new : Facts) (shown : Looked) (before after : ℕ) : Type 0 where
-  pub unknown : contains oid_cmp known p.oid ≡ false
-  pub mid : Facts
-  pub fact : Fact
-  pub learned : IsLearned objects p.oid old mid fact (before + 1) after
-  pub shows : ShowsFact p fact mid new shown
-
--- what the test of a pair comes to
+-- what the test of a pair comes to, which is one step
 abbrev pub IsTested : ObjectMap → BTreeSet Oid → Root → Facts → Facts → Looked → ℕ → ℕ → Type 0
 IsTested objects known p old new shown before after =
-    IsTestedKnown objects known p old new shown before after ⊎ IsTestedNew objects known p old new shown before after
+    IsTestedKnown objects known p old new shown before after
+    ⊎ ((contains oid_cmp known p.oid ≡ false) × IsTestedNew objects p old new shown (before + 1) after)

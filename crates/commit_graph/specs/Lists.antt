@@ -1,5 +1,5 @@
 -- Lists without repeats, and what is added to them.
-use Rattle.std.specs.Prelude.{◌≡◌, List, [], ◌∷◌, ◌++◌, ◌⊎◌, Contains}
+use Rattle.std.specs.Prelude.{◌≡◌, ◌≤◌, List, [], ◌∷◌, ◌++◌, ◌⊎◌, length, Contains}
 use Rattle.std.specs.declared.cmp.Ordering.{Ordering}
 use Rattle.std.specs.Ordering.{eq_by_cmp}
 use Rattle.std.specs.List.{list_any, IsDistinct}
@@ -14,10 +14,11 @@ pub record IsMarked {X : Type 0} (cmp : X → X → Ordering) (marks : BTreeSet 
 abbrev pub Adds : {X : Type 0} → List X → X → List X → Type 0
 Adds old x new = (Contains old x × (new ≡ old)) ⊎ ((Contains old x → ⊥) × (new ≡ old ++ x ∷ []))
 
--- new is old with the items of xs at its end that it lacked
+-- new is old with the items of xs at its end that it lacked, no more than those of xs
 pub record Extends {X : Type 0} (old xs new : List X) : Type 0 where
   pub more : List X
   pub is : new ≡ old ++ more
+  pub few : length more ≤ length xs
   pub has : (x : X) → Contains xs x → Contains new x
   pub from : (x : X) → Contains more x → Contains xs x
 

@@ -1,26 +1,25 @@
 // A closure that does not walk again what is known to be closed.
-ghost use Rattle.std.specs.Prelude.{◌≡◌, ◌≤◌, ◌+◌, ◌*◌, ◌++◌, ◌↔◌, ◌⊎◌, List, length, map, sum_by};
+ghost use Rattle.std.specs.Prelude.{◌≡◌, ◌≤◌, ◌+◌, ◌*◌, ◌↔◌, ◌⊎◌, List, length, sum_by};
 ghost use Rattle.std.specs.Prelude.{Contains, IsTrue, IfOk, IfErr, OnOk};
 ghost use Rattle.std.specs.Option.{ForSome};
 ghost use Rattle.commit_graph.specs.Faults.{IsAskedFor, KeepsObjects};
-ghost use Rattle.commit_graph.specs.Pairs.{pair_of};
 ghost use Rattle.commit_graph.specs.Walks.{Reached};
 ghost use Rattle.commit_graph.specs.Closures.{IsClosure};
 ghost use Rattle.commit_graph.specs.Beyond.{AllClosed, IsLinkBeyond, CoversBeyond, CoversFitBeyond};
+ghost use Rattle.commit_graph.specs.Beyond.{CoversPairsBeyond};
 ghost use Rattle.commit_graph.specs.Beyond.{link_count, GrowsBeyond, Leaves};
 ghost use Rattle.commit_graph.specs.Facts.{IsAccepted, IsTested};
 
 use crate::answer::Closure;
 use crate::closing::{answer, lesser};
-use crate::facts::{Fact, Facts};
+use crate::facts::Facts;
 use crate::look::Looked;
-use crate::plain::pair_at;
 use crate::reaching::add_names;
-use crate::root::{is_expected, pair_of};
+use crate::root::is_expected;
+use crate::visited::Visited;
 use crate::{GetFault, Objects, Root};
-use git_object::LinkTo;
 use rad_base::{Oid, Steps};
-use std::alloc::{AllocError, Global};
+use std::alloc::Global;
 use std::collections::BTreeSet;
 use std::sync::ledger::Ledger;
 
@@ -59,40 +58,21 @@ fn test_pair<O: Objects, L: Ledger>(
     ensures counted { steps.old ≤ steps.new }
 {
     steps.tick();
-    if known.contains(&pair.oid) {
-        return if is_accepted(objects, pair)? {
-            Ok(Looked::Fit(Vec::new(alloc)))
-        } else {
-            Ok(Looked::Unfit)
-        };
+    if !known.contains(&pair.oid) {
+        return facts.test(alloc, objects, pair, steps);
     }
-    match facts.learn(alloc, objects, pair.oid, steps)? {
-        Fact::Missing => Ok(Looked::Missing),
-        Fact::Malformed => Ok(Looked::Unfit),
-        Fact::Formed(kind) => {
-            if !is_expected(pair.kind, kind) {
-                return Ok(Looked::Unfit);
-            }
-            Ok(Looked::Fit(facts.take_links(alloc, pair.oid)))
-        }
+    if is_accepted(objects, pair)? {
+        Ok(Looked::Fit(Vec::new(alloc)))
+    } else {
+        Ok(Looked::Unfit)
     }
-}
-
-// Adds the pairs of the links at the end.
-fn append(queue: &mut Vec<Root>, links: &[LinkTo]) -> Result<(), AllocError>
-    ensures { OnOk result (queue.new.items ≡ queue.old.items ++ map pair_of links.now) }
-{
-    for link in links {
-        queue.push(pair_of(*link))?;
-    }
-    Ok(())
 }
 
 /// What a walk comes to that stops at known names, with the pairs that it tested.
 #[derive(Drop)]
 struct Searched {
     answer: Closure,
-    pairs: Vec<Root>,
+    pairs: Visited,
 }
 
 fn search<O: Objects, L: Ledger>(
@@ -106,31 +86,36 @@ fn search<O: Objects, L: Ledger>(
     ensures told { ForSome (O.content objects.old)
         (λ m. IfOk result (λ s. IsClosure m roots.now s.answer)) }
     ensures reach { ForSome (O.content objects.old) (λ m. IfOk result (λ s. (pair : Root)
-        → Contains s.pairs.items pair ↔ Reached (IsLinkBeyond m known.now) roots.now pair)) }
+        → Contains s.pairs pair ↔ Reached (IsLinkBeyond m known.now) roots.now pair)) }
     ensures cost { ForSome (O.content objects.old) (λ m. (names fit : List Oid)
         → CoversBeyond m known.now roots.now names → CoversFitBeyond m known.now roots.now fit
         → steps.new ≤ steps.old + length names + sum_by (link_count m) fit + 2 * length roots.now) }
+    ensures once { ForSome (O.content objects.old) (λ m. OnOk result ((names : List Oid)
+        (pairs : List Root) → CoversBeyond m known.now roots.now names
+        → CoversPairsBeyond m known.now roots.now pairs
+        → steps.new ≤ steps.old + length names + length pairs)) }
     ensures keeps { KeepsObjects O.content O.beside O.places O.faults Some objects.old objects.new
         result }
     ensures looked { O.looks objects.new + steps.old ≤ O.looks objects.old + steps.new }
 {
     let mut facts = Facts::new(alloc);
-    let mut queue = Vec::from_slice(alloc, roots)?;
+    let mut found = Visited::new(alloc);
+    found.extend(roots)?;
     let mut missing = None;
     let mut unfit = None;
     let mut i = 0;
-    while i < queue.len() {
-        let pair = pair_at(&queue, i);
+    while i < found.len() {
+        let pair = found.at(i);
         match test_pair(alloc, objects, known, &mut facts, pair, steps)? {
             Looked::Missing => missing = Some(lesser(missing, pair.oid)),
             Looked::Unfit => unfit = Some(lesser(unfit, pair.oid)),
-            Looked::Fit(links) => append(&mut queue, links.as_slice())?,
+            Looked::Fit(links) => found.follow(links.as_slice())?,
         }
         i += 1;
     }
     Ok(Searched {
         answer: answer(missing, unfit),
-        pairs: queue,
+        pairs: found,
     })
 }
 
@@ -144,7 +129,8 @@ fn search<O: Objects, L: Ledger>(
 /// A step is one look-up of an object or one test of a link, which at a known name includes the
 /// look at its object's kind. Where the objects are told there are at most as many as the names
 /// that are so reached and were not known, and the links of those of them whose objects are as
-/// expected and well formed, and twice the roots.
+/// expected and well formed, and twice the roots. Each pair that is so reached is tested once: at
+/// `Ok` there are at most as many steps as such names and such pairs.
 ///
 /// `Err` is the fault of a look-up, or `NoMemory`.
 pub fn closure_beyond<O: Objects, L: Ledger>(
@@ -163,6 +149,10 @@ pub fn closure_beyond<O: Objects, L: Ledger>(
     ensures cost { ForSome (O.content objects.old) (λ m. (names fit : List Oid)
         → CoversBeyond m known.old roots.now names → CoversFitBeyond m known.old roots.now fit
         → steps.new ≤ steps.old + length names + sum_by (link_count m) fit + 2 * length roots.now) }
+    ensures once { ForSome (O.content objects.old) (λ m. OnOk result ((names : List Oid)
+        (pairs : List Root) → CoversBeyond m known.old roots.now names
+        → CoversPairsBeyond m known.old roots.now pairs
+        → steps.new ≤ steps.old + length names + length pairs)) }
     ensures keeps { KeepsObjects O.content O.beside O.places O.faults Some objects.old objects.new
         result }
     ensures looked { O.looks objects.new + steps.old ≤ O.looks objects.old + steps.new }

@@ -1,90 +1,116 @@
 // What is known of the names that a walk looked up, each of them once.
-ghost use Rattle.std.specs.Prelude.{◌≡◌, ◌≤◌, ◌+◌, [], IfOk, None, cond};
-ghost use Rattle.std.specs.BTreeMap.{is_at};
-ghost use Rattle.std.specs.Option.{ForSome, unwrap_or};
-ghost use Rattle.rad_base.specs.Order.{oid_cmp};
+ghost use Rattle.std.specs.Prelude.{◌≡◌, ◌≤◌, ◌+◌, IfOk, None};
+ghost use Rattle.std.specs.Option.{ForSome};
 ghost use Rattle.commit_graph.specs.Faults.{KeepsObjects};
-ghost use Rattle.commit_graph.specs.Facts.{IsLearned, fact_in, waiting_in};
+ghost use Rattle.commit_graph.specs.Facts.{IsRead, IsTestedNew, ShowsFact, fact_in};
 
 use crate::look::{Looked, read};
-use crate::{GetFault, Objects};
+use crate::root::is_expected;
+use crate::{GetFault, Objects, Root};
 use git_object::{Kind, LinkTo};
 use rad_base::{Oid, Steps};
 use std::alloc::Global;
 use std::collections::BTreeMap;
+use std::mem;
 use std::sync::ledger::Ledger;
 
-/// What a look-up of a name shows.
-#[derive(Clone, Copy, Debug)]
+/// What is known of a name that was looked up.
+#[derive(Drop)]
 pub(crate) enum Fact {
     Missing,
     Malformed,
-    Formed(Kind),
+    /// Its object is well formed and of this kind, and its links were taken.
+    Taken(Kind),
+    /// Its object is well formed and of this kind. The links are kept until they are taken.
+    Waiting(Kind, Vec<LinkTo>),
 }
 
-/// What is known of the names that were looked up.
+// Looks up a name, which is one step.
+fn look_up<O: Objects, L: Ledger>(
+    alloc: Global,
+    objects: &mut O,
+    oid: Oid,
+    steps: &mut Steps<L>,
+) -> Result<Fact, GetFault>
+    ensures told { ForSome (O.content objects.old) (λ m. IfOk result (IsRead m oid)) }
+    ensures keeps { KeepsObjects O.content O.beside O.places O.faults Some objects.old objects.new
+        result }
+    ensures looked { O.looks objects.new ≤ O.looks objects.old + 1 }
+    ensures cost { steps.new ≡ steps.old + 1 }
+{
+    steps.tick();
+    match objects.get(&oid)? {
+        None => Ok(Fact::Missing),
+        Some((kind, bytes)) => match read(alloc, kind, bytes)? {
+            Looked::Fit(links) => Ok(Fact::Waiting(kind, links)),
+            Looked::Missing | Looked::Unfit => Ok(Fact::Malformed),
+        },
+    }
+}
+
+// What a pair shows by the fact of its name. One of the right kind takes the links that wait.
+fn shown_by(alloc: Global, fact: &mut Fact, pair: Root) -> Looked
+    ensures { ShowsFact pair fact.old fact.new result }
+{
+    match fact {
+        Fact::Missing => Looked::Missing,
+        Fact::Malformed => Looked::Unfit,
+        Fact::Taken(kind) => {
+            if !is_expected(pair.kind, *kind) {
+                return Looked::Unfit;
+            }
+            Looked::Fit(Vec::new(alloc))
+        }
+        Fact::Waiting(kind, links) => {
+            let kind = *kind;
+            if !is_expected(pair.kind, kind) {
+                return Looked::Unfit;
+            }
+            let links = mem::replace(links, Vec::new(alloc));
+            *fact = Fact::Taken(kind);
+            Looked::Fit(links)
+        }
+    }
+}
+
+/// What is known of the names that were looked up, with the links that wait.
 #[derive(Drop)]
 pub(crate) struct Facts {
-    pub(crate) facts: BTreeMap<Oid, Fact>,
-    /// The links of well-formed objects, until they are taken.
-    pub(crate) waiting: BTreeMap<Oid, Vec<LinkTo>>,
+    pub(crate) by_name: BTreeMap<Oid, Fact>,
 }
 
 impl Facts {
     pub(crate) fn new(alloc: Global) -> Self
-        ensures facts { (oid : Oid) → fact_in result oid ≡ None }
-        ensures waiting { (oid : Oid) → waiting_in result oid ≡ None }
+        ensures { (oid : Oid) → fact_in result oid ≡ None }
     {
         Facts {
-            facts: BTreeMap::new(alloc),
-            waiting: BTreeMap::new(alloc),
+            by_name: BTreeMap::new(alloc),
         }
     }
 
-    /// What is known of a name. It is looked up the first time, which is one step.
-    pub(crate) fn learn<O: Objects, L: Ledger>(
+    /// What a pair shows, with the links that are followed from it; a name gives its links once. It
+    /// is looked up the first time, which is one step.
+    pub(crate) fn test<O: Objects, L: Ledger>(
         &mut self,
         alloc: Global,
         objects: &mut O,
-        oid: Oid,
+        pair: Root,
         steps: &mut Steps<L>,
-    ) -> Result<Fact, GetFault>
+    ) -> Result<Looked, GetFault>
         ensures told { ForSome (O.content objects.old) (λ m. IfOk result
-            (λ fact. IsLearned m oid self.old self.new fact steps.old steps.new)) }
+            (λ looked. IsTestedNew m pair self.old self.new looked steps.old steps.new)) }
         ensures keeps { KeepsObjects O.content O.beside O.places O.faults Some objects.old
             objects.new result }
         ensures looked { O.looks objects.new + steps.old ≤ O.looks objects.old + steps.new }
         ensures cost { steps.new ≤ steps.old + 1 }
         ensures counted { steps.old ≤ steps.new }
     {
-        if let Some(fact) = self.facts.get(&oid) {
-            return Ok(*fact);
+        if let Some(fact) = self.by_name.get_mut(&pair.oid) {
+            return Ok(shown_by(alloc, fact, pair));
         }
-        steps.tick();
-        let fact = match objects.get(&oid)? {
-            None => Fact::Missing,
-            Some((kind, bytes)) => match read(alloc, kind, bytes)? {
-                Looked::Fit(links) => {
-                    self.waiting.insert(oid, links)?;
-                    Fact::Formed(kind)
-                }
-                Looked::Missing | Looked::Unfit => Fact::Malformed,
-            },
-        };
-        self.facts.insert(oid, fact)?;
-        Ok(fact)
-    }
-
-    /// Takes the links of a name that wait; none where they were taken before.
-    pub(crate) fn take_links(&mut self, alloc: Global, oid: Oid) -> Vec<LinkTo>
-        ensures links { result.items ≡ unwrap_or (waiting_in self.old oid) [] }
-        ensures facts { (other : Oid) → fact_in self.new other ≡ fact_in self.old other }
-        ensures waiting { (other : Oid) → waiting_in self.new other
-            ≡ cond (is_at (oid_cmp oid) other) None (waiting_in self.old other) }
-    {
-        match self.waiting.remove(&oid) {
-            Some(links) => links,
-            None => Vec::new(alloc),
-        }
+        let mut fact = look_up(alloc, objects, pair.oid, steps)?;
+        let looked = shown_by(alloc, &mut fact, pair);
+        self.by_name.insert(pair.oid, fact)?;
+        Ok(looked)
     }
 }

@@ -14,7 +14,7 @@ invariant-loop-i g l =
       beside : beside l.objects ≡ beside l.fn.objects;
       still : faults l.objects ≡ faults l.fn.objects;
       looked : looks l.objects + l.fn.steps ≤ looks l.fn.objects + l.steps;
-      progress : ForSome (content l.fn.objects) (λ m. Search m l.known l.roots l.i l.queue.items l.facts l.missing l.unfit l.fn.steps l.steps);
+      progress : ForSome (content l.fn.objects) (λ m. Search m l.known l.roots l.i l.found l.facts l.missing l.unfit l.fn.steps l.steps);
     }
 
 abbrev pub decreases-loop-i : goal.decreases-loop-i
