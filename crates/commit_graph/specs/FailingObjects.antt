@@ -1,5 +1,5 @@
 -- What is seen of objects in memory that come to fail.
-use Rattle.std.specs.Prelude.{◌≡◌, ℕ, ◌+◌, ◌-◌, ◌^◌, ◌<◌, ◌≤◌, ◌⊎◌, min, [], Option, Some, None}
+use Rattle.std.specs.Prelude.{◌≡◌, ℕ, ◌+◌, ◌-◌, ◌^◌, ◌<◌, ◌≤◌, ◌⊎◌, min, [], Option, Some, None, Result}
 use Rattle.std.specs.Option.{option_or}
 use Rattle.rad_base.specs.declared.names.Oid.{Oid}
 use Rattle.git_object.specs.Names.{name}
@@ -9,7 +9,13 @@ use Rattle.commit_graph.specs.declared.failing.Failure.{Failure}
 use Rattle.commit_graph.specs.declared.failing.Failure.TheVariants as failures
 use Rattle.commit_graph.specs.declared.fault.GetFault.{GetFault}
 use Rattle.commit_graph.specs.declared.fault.GetFault.TheVariants as fault
-use Rattle.commit_graph.specs.Faults.{IsCaused, Places}
+use Rattle.commit_graph.specs.Faults.{IsCaused, KeepsObjects, Places}
+use Rattle.commit_graph.specs.InMemory.{objects_in}
+use Rattle.commit_graph.specs.Objects.{ObjectMap}
+
+-- the objects in memory, by name
+abbrev pub map_of : FailingObjects → ObjectMap
+map_of store = objects_in store.objects.now.objects
 
 -- how many look-ups are answered
 abbrev pub answers_of : FailingObjects → ℕ
@@ -57,3 +63,9 @@ pub record IsCounted (old : FailingObjects) (oid : Oid) (met : Option GetFault) 
   pub last : fault_of new ≡ option_or met (fault_of old)
   pub later : faults_of old ≤ faults_of new
   pub cause : IsCaused None one_place (faults_of old) (faults_of new) met
+
+-- what a look-up with this answer keeps: no object is told, and nothing else is kept
+abbrev pub KeepsStore : {T : Type 0} → FailingObjects → FailingObjects → Result T GetFault → Type 0
+KeepsStore old new result =
+    KeepsObjects (λ (_ : FailingObjects). None) (λ (_ : FailingObjects). tt {0}) (λ (_ : Unit {0}). one_place) faults_of Some old new result
+    × (looks_of new ≤ looks_of old + 1)

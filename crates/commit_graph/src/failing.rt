@@ -52,10 +52,12 @@ pub struct FailingObjects<'a> {
 
 impl<'a> FailingObjects<'a> {
     ghost use Rattle.commit_graph.specs.FailingObjects.{answers_of, failure_of, fault_of, looks_of};
-    ghost use Rattle.commit_graph.specs.FailingObjects.{IsCounted};
+    ghost use Rattle.commit_graph.specs.FailingObjects.{IsCounted, map_of};
+    ghost use Rattle.commit_graph.specs.InMemory.{objects_in};
 
     /// These objects. So many look-ups are answered, and each later one fails in this way.
     pub fn new(objects: &'a MemObjects, failure: Failure, answers: u64) -> Self
+        ensures objects { map_of result ≡ objects_in objects.now.objects }
         ensures failure { failure_of result ≡ failure }
         ensures answers { answers_of result ≡ answers }
         ensures looks { looks_of result ≡ 0 }
@@ -104,7 +106,15 @@ impl<'a> FailingObjects<'a> {
 
 impl Objects for FailingObjects<'_> {
     ghost use Rattle.std.proofs.Common.{rules};
-    ghost use Rattle.commit_graph.specs.FailingObjects.{faults_of, looks_of, one_place};
+    ghost use Rattle.std.specs.Prelude.{[], IfErr, IfOk, Some};
+    ghost use Rattle.std.specs.Borrow.{sem};
+    ghost use Rattle.std.specs.Io.BufRead.{Rests};
+    ghost use Rattle.commit_graph.specs.FailingObjects.{FailsAs, KeepsStore, faults_of, looks_of};
+    ghost use Rattle.commit_graph.specs.FailingObjects.{map_of, one_place};
+    ghost use Rattle.commit_graph.specs.Faults.{fault_met};
+    ghost use Rattle.commit_graph.specs.Objects.{IsFoundAs, shown};
+    ghost use Rattle.commit_graph.specs.contracts.failing.FailingObjects.{the_row};
+    ghost use mir.Syntax.{named};
 
     ghost content = { λ _. None };
 
@@ -118,7 +128,16 @@ impl Objects for FailingObjects<'_> {
 
     ghost places = { λ _. one_place };
 
-    fn get(&mut self, oid: &Oid) -> Result<Option<(Kind, &[u8])>, GetFault> {
+    /// It fails exactly where as many look-ups were answered as are to be, and with the fault of
+    /// its kind; else it hands out what the objects in memory have under the name.
+    fn get(&mut self, oid: &Oid) -> Result<Option<(Kind, &[u8])>, GetFault>
+        ensures fails { FailsAs self.old oid.now (fault_met Some result) }
+        ensures shows { IfOk result (λ found. shown found ≡ map_of self.old oid.now) }
+        ensures named { IfOk result (IsFoundAs oid.now) }
+        ensures asked { IfErr result (IsAskedFor oid.now) }
+        ensures* keeps { sem 𝓛 (Rests (the_row (record { mir = named 1; lft = [] })) self.entry
+            (λ new. KeepsStore self.old new result)) }
+    {
         match self.count(oid) {
             Some(fault) => Err(fault),
             None => Ok(self.objects.object(oid)),
