@@ -1,0 +1,5 @@
+pub mod Bodies
+pub mod Contents
+pub mod Numbers
+pub mod ReadSoFar
+pub mod Texts
