@@ -1,7 +1,13 @@
+pub mod AncestryWalks
 pub mod Candidates
 pub mod Comparing
 pub mod Counts
+pub mod FoundTips
 pub mod LeastNames
+pub mod Marking
+pub mod Numbering
 pub mod OneHead
+pub mod Parts
+pub mod Places
 pub mod Rows
 pub mod SomeHead

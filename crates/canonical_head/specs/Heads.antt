@@ -12,6 +12,10 @@ abbrev pub Counts : {X : Type 0} → (X → Type 0) → List X → ℕ → Type 
 Counts P [] n = n ≡ 0
 Counts P (x ∷ xs) n = (P x × ((k : ℕ) × (n ≡ k + 1) × Counts P xs k)) ⊎ ((P x → ⊥) × Counts P xs n)
 
+-- each commit in the history of a tip is among these
+abbrev pub CoversHistories : ObjectMap → List Oid → List Oid → Type 0
+CoversHistories objects tips commits = (old new : Oid) → Contains tips new → InHistory objects old new → Contains commits old
+
 -- n of the tips have the commit in their history; a tip counts as often as it stands
 abbrev pub HasVotes : ObjectMap → List Oid → Oid → ℕ → Type 0
 HasVotes objects tips oid n = Counts (λ tip. InHistory objects oid tip) tips n

@@ -1,9 +1,10 @@
 // The canonical head.
-ghost use Rattle.std.specs.Prelude.{◌≡◌, ℕ, ◌≤◌, nat_le, IfOk, filter};
+ghost use Rattle.std.specs.Prelude.{◌≡◌, ℕ, ◌≤◌, ◌+◌, nat_le, IfOk, List, length, filter};
 ghost use Rattle.std.specs.Option.{ForSome};
 ghost use Rattle.commit_graph.specs.Faults.{KeepsObjects};
 ghost use Rattle.commit_graph.specs.Objects.{ObjectMap};
-ghost use Rattle.canonical_head.specs.Heads.{IsHead};
+ghost use Rattle.rad_base.specs.declared.names.Oid.{Oid};
+ghost use Rattle.canonical_head.specs.Heads.{CoversHistories, IsHead};
 ghost use Rattle.canonical_head.specs.Divergence.{IsDivergence, rivaled_in, rivals_in};
 ghost use Rattle.canonical_head.specs.Tables.{IsTable, votes_in, candidates_in, is_top, is_beside};
 ghost use Rattle.canonical_head.specs.Tables.{has_rival, tells};
@@ -119,8 +120,13 @@ fn divergence(alloc: Global, table: &Table, candidates: &[Oid]) -> Result<Head, 
     }
 }
 
-// The head, as the table tells the histories.
-fn head_by(alloc: Global, table: &Table, tips: &[Oid], threshold: u8) -> Result<Head, AllocError>
+/// The head, as the table tells the histories.
+pub(crate) fn head_by(
+    alloc: Global,
+    table: &Table,
+    tips: &[Oid],
+    threshold: u8,
+) -> Result<Head, AllocError>
     ensures told { IfOk result (λ head. (m : ObjectMap) → IsTable m tips.now table.now
         → IsHead m tips.now threshold head) }
     ensures branch { IfOk result (λ head. head ≡ Head.NoBranch → ⊥) }
@@ -140,7 +146,8 @@ fn head_by(alloc: Global, table: &Table, tips: &[Oid], threshold: u8) -> Result<
 /// count as often as they stand. At most 255 tips.
 ///
 /// `NoQuorum` where there is no candidate; `At` the least candidate that has all candidates in its
-/// history; else `Diverging`. It never answers `NoBranch`. `Err` is the fault of a look-up, or
+/// history; else `Diverging`. It never answers `NoBranch`. Each commit of the histories is looked up
+/// at most once, however many tips have it in theirs. `Err` is the fault of a look-up, or
 /// `NoMemory`.
 pub fn head<O: Objects>(
     alloc: Global,
@@ -153,6 +160,9 @@ pub fn head<O: Objects>(
     ensures branch { IfOk result (λ head. head ≡ Head.NoBranch → ⊥) }
     ensures keeps { KeepsObjects O.content O.beside O.places O.faults Some objects.old objects.new
         result }
+    ensures looked { ForSome (O.content objects.old) (λ m. (commits : List Oid)
+        → CoversHistories m tips.now commits
+        → O.looks objects.new ≤ O.looks objects.old + length commits) }
 {
     let table = table_of(alloc, objects, tips)?;
     let head = head_by(alloc, &table, tips, threshold)?;

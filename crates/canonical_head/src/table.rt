@@ -1,14 +1,19 @@
 // Which tips lie in the histories of which.
-ghost use Rattle.std.specs.Prelude.{◌≡◌, ◌≤◌, ◌++◌, ◌∷◌, [], List, IfOk, OnOk, IsTrue, ◌↔◌};
-ghost use Rattle.std.specs.Prelude.{Contains};
+ghost use Rattle.std.specs.Prelude.{◌≡◌, ◌≤◌, ◌+◌, ◌↔◌, List, length, IfOk, IsTrue};
 ghost use Rattle.std.specs.Option.{ForSome};
 ghost use Rattle.std.specs.BTreeSet.{contains};
+ghost use Rattle.rad_base.specs.declared.names.Oid.{Oid};
+ghost use Rattle.rad_base.specs.Lists.{AllDiffer};
 ghost use Rattle.rad_base.specs.Order.{oid_cmp};
 ghost use Rattle.commit_graph.specs.Faults.{KeepsObjects};
-ghost use Rattle.commit_graph.specs.Histories.{HasCommit};
+ghost use Rattle.commit_graph.specs.Objects.{ObjectMap};
+ghost use Rattle.canonical_head.specs.Ancestries.{IsAncestry, IsFoundTip, IsSound};
+ghost use Rattle.canonical_head.specs.Heads.{CoversHistories};
 ghost use Rattle.canonical_head.specs.Tables.{tells, AreRows, IsTable};
 
-use commit_graph::{GetFault, History, Objects, history_of};
+use crate::ancestry::{Ancestry, ancestry_of};
+use crate::search::{Marked, search};
+use commit_graph::{GetFault, Objects};
 use rad_base::Oid;
 use std::alloc::{AllocError, Global};
 use std::collections::{BTreeMap, BTreeSet};
@@ -16,7 +21,7 @@ use std::collections::{BTreeMap, BTreeSet};
 /// For each tip the tips in its history.
 #[derive(Drop)]
 pub(crate) struct Table {
-    rows: BTreeMap<Oid, BTreeSet<Oid>>,
+    pub(crate) rows: BTreeMap<Oid, BTreeSet<Oid>>,
 }
 
 impl Table {
@@ -31,43 +36,38 @@ impl Table {
     }
 }
 
-// Those of the tips that are commits of the history.
-fn row(alloc: Global, history: &History, tips: &[Oid]) -> Result<BTreeSet<Oid>, AllocError>
-    ensures { IfOk result (λ row. (old : Oid) → Contains tips.now old
-        → IsTrue (contains oid_cmp row old) ↔ HasCommit history.now old) }
+// Those of the tips whose numbers were found.
+fn row(alloc: Global, tips: &[Oid], marked: &Marked) -> Result<BTreeSet<Oid>, AllocError>
+    requires { AllDiffer tips.now }
+    ensures { IfOk result (λ row. (oid : Oid) → IsTrue (contains oid_cmp row oid)
+        ↔ IsFoundTip tips.now marked.now.found oid) }
 {
     let mut row = BTreeSet::new(alloc);
-    for tip in tips {
-        if history.contains(tip) {
-            row.insert(*tip)?;
+    for number in 0..tips.len() {
+        if marked.contains(number) {
+            row.insert(tips[number])?;
         }
     }
     Ok(row)
 }
 
-// Adds the row of a tip, by one walk, unless it is there.
-fn add_row<O: Objects>(
-    alloc: Global,
-    objects: &mut O,
-    tips: &[Oid],
-    rows: &mut BTreeMap<Oid, BTreeSet<Oid>>,
-    tip: &Oid,
-) -> Result<(), GetFault>
-    ensures told { ForSome (O.content objects.old) (λ m. OnOk result ((news : List Oid)
-        → AreRows m tips.now news rows.old → AreRows m tips.now (news ++ tip.now ∷ []) rows.new)) }
-    ensures keeps { KeepsObjects O.content O.beside O.places O.faults Some objects.old objects.new
-        result }
+// The rows of the different tips, by one search for each.
+fn rows_of(alloc: Global, ancestry: &Ancestry) -> Result<BTreeMap<Oid, BTreeSet<Oid>>, AllocError>
+    requires { IsSound ancestry.now }
+    ensures { IfOk result (λ rows. (m : ObjectMap) (tips : List Oid) → IsAncestry m tips ancestry.now
+        → AreRows m tips ancestry.now.tips.items rows) }
 {
-    if rows.contains_key(tip) {
-        return Ok(());
+    let mut rows = BTreeMap::new(alloc);
+    for number in 0..ancestry.tips.len() {
+        let marked = search(alloc, &ancestry.parents, number)?;
+        let row = row(alloc, &ancestry.tips, &marked)?;
+        rows.insert(ancestry.tips[number], row)?;
     }
-    let history = history_of(alloc, objects, tip)?;
-    let row = row(alloc, &history, tips)?;
-    rows.insert(*tip, row)?;
-    Ok(())
+    Ok(rows)
 }
 
-/// The table of the tips, by one walk for each different one.
+/// The table of the tips, by one walk over all their histories, which looks each commit of them up
+/// at most once.
 pub(crate) fn table_of<O: Objects>(
     alloc: Global,
     objects: &mut O,
@@ -76,10 +76,11 @@ pub(crate) fn table_of<O: Objects>(
     ensures told { ForSome (O.content objects.old) (λ m. IfOk result (IsTable m tips.now)) }
     ensures keeps { KeepsObjects O.content O.beside O.places O.faults Some objects.old objects.new
         result }
+    ensures looked { ForSome (O.content objects.old) (λ m. (commits : List Oid)
+        → CoversHistories m tips.now commits
+        → O.looks objects.new ≤ O.looks objects.old + length commits) }
 {
-    let mut rows = BTreeMap::new(alloc);
-    for tip in tips {
-        add_row(alloc, objects, tips, &mut rows, tip)?;
-    }
+    let ancestry = ancestry_of(alloc, objects, tips)?;
+    let rows = rows_of(alloc, &ancestry)?;
     Ok(Table { rows })
 }

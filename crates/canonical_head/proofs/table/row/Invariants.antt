@@ -1,7 +1,7 @@
 use Rattle.std.proofs.Common.{take}
-use Rattle.commit_graph.specs.Histories.{HasCommit}
+use Rattle.canonical_head.specs.Ancestries.{IsFoundTip}
 use Rattle.canonical_head.proofs.Rows.{IsKept}
 use Rattle.canonical_head.proofs.table.row.Given as goal
 
-abbrev pub invariant-loop-tip : goal.invariant-loop-tip
-invariant-loop-tip l = IsKept (HasCommit l.history) (take l.tip-index l.tips) l.row
+abbrev pub invariant-loop-number : goal.invariant-loop-number
+invariant-loop-number l = IsKept (IsFoundTip l.tips l.marked.found) (take l.number l.tips) l.row

@@ -1,7 +1,7 @@
 use Rattle.std.proofs.Common.{◌≡◌, take}
 use Rattle.std.specs.Option.{ForSome}
 use Rattle.canonical_head.specs.Tables.{AreRows}
-use Rattle.canonical_head.proofs.table.table_of.Given as goal
+use Rattle.canonical_head.proofs.plain.table_by_histories.Given as goal
 
 abbrev pub invariant-loop-tip : goal.invariant-loop-tip
 invariant-loop-tip g l =

@@ -1,6 +1,6 @@
 use Rattle.std.proofs.Common.{sym, ◌∙◌}
 use Rattle.canonical_head.proofs.Rows.{rows_known, rows_added}
-use Rattle.canonical_head.proofs.table.add_row.Goals as goal
+use Rattle.canonical_head.proofs.plain.add_row.Goals as goal
 
 pub returns-then-contains_key-clause-told : goal.returns-then-contains_key-clause-told
 returns-then-contains_key-clause-told g c = λ m e news h.
