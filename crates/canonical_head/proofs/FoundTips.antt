@@ -1,6 +1,6 @@
 -- Rows of tips by the numbers that were found.
 use Rattle.std.proofs.Common.{◌≡◌, ℕ, ◌<◌, List, [], ◌∷◌, ◌↔◌, length, get_or, Some, subst}
-use Rattle.std.proofs.lemmas.Option.{slice_get-get_or}
+use Rattle.std.proofs.lemmas.Option.{slice_get-get_or, slice_get_within}
 use Rattle.std.specs.BTreeMap.{BTreeMap}
 use Rattle.std.specs.BTreeSet.{BTreeSet, contains}
 use Rattle.std.specs.Prelude.{Contains, IsTrue, slice_get}
@@ -28,13 +28,13 @@ not_found_tip tips found i d differ l lacks f =
 -- the tips whose numbers are reached from that of one are those in its history
 pub found_row : (m : ObjectMap) (tips : List Oid) (ancestry : Ancestry) (j : ℕ) (new : Oid) (found : List ℕ) (row : BTreeSet Oid)
     → IsAncestry m tips ancestry → slice_get ancestry.tips.items j ≡ Some new
-    → ((number : ℕ) → Contains found number ↔ Reached (IsNext ancestry.parents) (j ∷ []) number)
+    → ((number : ℕ) → number < length ancestry.tips.items → Contains found number ↔ Reached (IsNext ancestry.parents) (j ∷ []) number)
     → ((oid : Oid) → IsTrue (contains oid_cmp row oid) ↔ IsFoundTip ancestry.tips.items found oid)
     → IsRow m tips new row
 found_row m tips ancestry j new found row h at searched is old among = (
-  λ t. let f = (is old).0 t in (h.told f.0 j old new f.1 at).0 ((searched f.0).0 f.2),
+  λ t. let f = (is old).0 t in (h.told f.0 j old new f.1 at).0 ((searched f.0 (slice_get_within ancestry.tips.items f.0 old f.1)).0 f.2),
   λ r. let place = place_of ancestry.tips.items old (h.has old among) in
-      (is old).1 (place.0, place.1, (searched place.0).1 ((h.told place.0 j old new place.1 at).1 r)),
+      (is old).1 (place.0, place.1, (searched place.0 (slice_get_within ancestry.tips.items place.0 old place.1)).1 ((h.told place.0 j old new place.1 at).1 r)),
 )
 
 -- rows of the different tips are rows of the tips

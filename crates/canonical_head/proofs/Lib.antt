@@ -10,4 +10,5 @@ pub mod OneHead
 pub mod Parts
 pub mod Places
 pub mod Rows
+pub mod ShortWalks
 pub mod SomeHead

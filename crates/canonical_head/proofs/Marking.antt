@@ -1,16 +1,18 @@
 -- Numbers that get marks.
-use Rattle.std.proofs.Common.{◌≡◌, ◌≢◌, ℕ, ◌<◌, ◌≤◌, Bool, true, List, [], ◌∷◌, ◌++◌, length, get_or, set, Some, sym, ap, subst, inl, inr, ◌⊎◌, ⊎_elim, ◌∙◌, arith, get_or-set_same, get_or-set_other}
+use Rattle.std.proofs.Common.{◌≡◌, ◌≢◌, ℕ, ◌+◌, ◌<◌, ◌≤◌, Bool, true, List, [], ◌∷◌, ◌++◌, length, get_or, set, Some, sym, ap, subst, inl, inr, ◌⊎◌, ⊎_elim, ◌∙◌, arith, get_or-set_same, get_or-set_other, refl, ◌↔◌}
 use Rattle.std.proofs.Math.ListN.{length-set}
 use Rattle.std.proofs.lemmas.Bool.{cases_lt}
 use Rattle.std.proofs.lemmas.List.Elements.{Contains-append_left, Contains-push, Contains-push_cases}
 use Rattle.std.proofs.lemmas.Option.{slice_get_within, slice_get-get_or, get_or_from_slice_get}
 use Rattle.std.specs.Prelude.{Contains, slice_get}
+use Rattle.rad_base.proofs.Members.{contains_nothing}
 use Rattle.rad_base.proofs.Options.{one_value}
 use Rattle.commit_graph.specs.Lists.{Extends, Follows}
-use Rattle.canonical_head.specs.Ancestries.{IsNext}
+use Rattle.commit_graph.proofs.PairSteps.{nothing_follows}
+use Rattle.canonical_head.specs.Ancestries.{GoesOn, IsNext, IsNextFrom}
 use Rattle.canonical_head.specs.Marks.{IsMarking}
 
-same_or_other : (a b : ℕ) → (a ≡ b) ⊎ (a ≢ b)
+pub same_or_other : (a b : ℕ) → (a ≡ b) ⊎ (a ≢ b)
 same_or_other a b =
     ⊎_elim
     (λ (l : a < b). inr (λ e. omega (arith, l, e)))
@@ -64,12 +66,52 @@ pub found_below : (marks : List Bool) (found : List ℕ) (n : ℕ) → IsMarking
     → Contains found n → n < length marks
 found_below marks found n h c = slice_get_within marks n true ((h n).1 c)
 
--- one turn of a search adds the row of its number
-pub next_follows : {rows : List (List ℕ)} {row found found' : List ℕ} (a : ℕ) → slice_get rows a ≡ Some row
-    → Extends found row found' → Follows (IsNext rows) a found found'
-next_follows {rows} {row} a there grown = record {
+-- where a search goes on from a number its row is added
+pub next_follows : {rows : List (List ℕ)} {row found found' : List ℕ} (start ends a : ℕ) → slice_get rows a ≡ Some row
+    → GoesOn start ends a → Extends found row found' → Follows (IsNextFrom rows start ends) a found found'
+next_follows {rows} {row} start ends a there on grown = record {
   steps = row;
-  all = λ b next. subst (λ (xs : List ℕ). Contains xs b) (one_value next.there there) next.among;
-  only = λ b c. record { row = row; there = there; among = c };
+  all = λ b s. subst (λ (xs : List ℕ). Contains xs b) (one_value s.next.there there) s.next.among;
+  only = λ b c. record { next = record { row = row; there = there; among = c }; on = on };
   grown = grown;
 }
+
+-- and where it ends nothing is
+pub end_follows : {rows : List (List ℕ)} {found : List ℕ} (start ends a : ℕ) → (GoesOn start ends a → ⊥)
+    → Follows (IsNextFrom rows start ends) a found found
+end_follows start ends a never = nothing_follows (λ b s. never s.on) refl
+
+-- the list has the numbers below n that were found
+abbrev pub HasBelow : List ℕ → List ℕ → ℕ → Type 0
+HasBelow found list n = (b : ℕ) → Contains list b ↔ ((b < n) × Contains found b)
+
+pub below_none : (found list : List ℕ) → list ≡ [] → HasBelow found list 0
+below_none found list e b = (
+  λ c. absurd (contains_nothing b (subst (λ (xs : List ℕ). Contains xs b) e c)),
+  λ r. absurd (omega (arith, r.0)),
+)
+
+pub below_push : (found list list' : List ℕ) (n : ℕ)
+    → (Contains found n × (list' ≡ list ++ n ∷ [])) ⊎ ((Contains found n → ⊥) × (list' ≡ list))
+    → HasBelow found list n → HasBelow found list' (n + 1)
+below_push found list list' n (inl (has, e)) h b = (
+  λ c. ⊎_elim
+      (λ (old : Contains list b). let r = (h b).0 old in (omega (arith, r.0), r.1))
+      (λ (same : n ≡ b). (omega (arith, same), subst (Contains found) same has))
+      (Contains-push_cases list n b (subst (λ (xs : List ℕ). Contains xs b) e c)),
+  λ r. subst (λ (xs : List ℕ). Contains xs b) (sym e) (⊎_elim
+      (λ (same : b ≡ n). subst (Contains (list ++ n ∷ [])) (sym same) (Contains-push list n))
+      (λ (ne : b ≢ n). Contains-append_left list (n ∷ []) b ((h b).1 (below_other b n ne r.0, r.1)))
+      (same_or_other b n)),
+) where
+  below_other : (a k : ℕ) → a ≢ k → a < k + 1 → a < k
+  below_other a k ne l = omega (arith, ne, l)
+below_push found list list' n (inr (lacks, e)) h b = (
+  λ c. let r = (h b).0 (subst (λ (xs : List ℕ). Contains xs b) e c) in (omega (arith, r.0), r.1),
+  λ r. subst (λ (xs : List ℕ). Contains xs b) (sym e) (⊎_elim
+      (λ (same : b ≡ n). absurd (lacks (subst (Contains found) same r.1)))
+      (λ (ne : b ≢ n). (h b).1 (below_other b n ne r.0, r.1))
+      (same_or_other b n)),
+) where
+  below_other : (a k : ℕ) → a ≢ k → a < k + 1 → a < k
+  below_other a k ne l = omega (arith, ne, l)

@@ -46,9 +46,24 @@ pub record IsNext (rows : List (List ℕ)) (a b : ℕ) : Type 0 where
   pub there : slice_get rows a ≡ Some row
   pub among : Contains row b
 
+-- a search goes on from where it starts, and from numbers from a limit on
+abbrev pub GoesOn : ℕ → ℕ → ℕ → Type 0
+GoesOn start ends number = (number ≡ start) ⊎ (ends ≤ number)
+
+-- the second number stands in the row of the first, from which a search goes on
+pub record IsNextFrom (rows : List (List ℕ)) (start ends a b : ℕ) : Type 0 where
+  pub next : IsNext rows a b
+  pub on : GoesOn start ends a
+
 -- each number in a row has a row
 abbrev pub IsInside : List (List ℕ) → Type 0
 IsInside rows = (a b : ℕ) → IsNext rows a b → b < length rows
+
+-- as many rows as are wanted, which lead from each of their numbers to those of them to which the other rows do
+pub record LeadAlike (rows : List (List ℕ)) (count : ℕ) (short : List (List ℕ)) : Type 0 where
+  pub counted : length short ≡ count
+  pub inside : IsInside short
+  pub alike : (i j : ℕ) → i < count → j < count → Reached (IsNext short) (j ∷ []) i ↔ Reached (IsNext rows) (j ∷ []) i
 
 -- each tip stands once, and each number has a row
 pub record IsSound (ancestry : Ancestry) : Type 0 where

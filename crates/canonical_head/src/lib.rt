@@ -9,6 +9,7 @@ pub mod answer;
 mod heads;
 mod laws;
 mod least;
+mod nearest;
 mod numbered;
 mod parents;
 mod plain;

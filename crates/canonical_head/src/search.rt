@@ -1,9 +1,9 @@
 // Searches over numbers.
 ghost use Rattle.std.specs.Prelude.{◌≡◌, ℕ, ◌<◌, ◌^◌, ◌↔◌, [], ◌∷◌, length, slice_get, Contains};
 ghost use Rattle.std.specs.Prelude.{IsTrue, IfOk, OnOk, Some};
-ghost use Rattle.commit_graph.specs.Lists.{Adds, Extends};
+ghost use Rattle.commit_graph.specs.Lists.{Adds, Extends, Follows};
 ghost use Rattle.commit_graph.specs.Walks.{Reached};
-ghost use Rattle.canonical_head.specs.Ancestries.{IsInside, IsNext};
+ghost use Rattle.canonical_head.specs.Ancestries.{GoesOn, IsInside, IsNextFrom};
 
 use crate::adjacency::Adjacency;
 use std::alloc::{AllocError, Global};
@@ -89,19 +89,53 @@ impl Marked {
     }
 }
 
-/// The numbers to which the lists lead from one, itself included.
-pub(crate) fn search(alloc: Global, lists: &Adjacency, start: usize) -> Result<Marked, AllocError>
+// Whether a search goes on from a number.
+fn goes_on(start: usize, ends: usize, number: usize) -> bool
+    ensures { IsTrue result ↔ GoesOn start ends number }
+{
+    number == start || ends <= number
+}
+
+// Goes on from a number, unless the search ends there.
+fn follow(
+    lists: &Adjacency,
+    start: usize,
+    ends: usize,
+    marked: &mut Marked,
+    number: usize,
+) -> Result<(), AllocError>
+    requires below { number < length lists.now }
+    requires inside { IsInside lists.now }
+    requires limit { marked.old.limit ≡ length lists.now }
+    ensures ok { OnOk result (Follows (IsNextFrom lists.now start ends) number marked.old.found
+        marked.new.found) }
+    ensures limit { marked.new.limit ≡ marked.old.limit }
+{
+    if !goes_on(start, ends, number) {
+        return Ok(());
+    }
+    marked.extend(lists.at(number))
+}
+
+/// The numbers to which the lists lead from one, itself included. Numbers below `ends` are found,
+/// but none but the first is gone on from.
+pub(crate) fn search(
+    alloc: Global,
+    lists: &Adjacency,
+    start: usize,
+    ends: usize,
+) -> Result<Marked, AllocError>
     requires start { start < length lists.now }
     requires inside { IsInside lists.now }
     ensures { IfOk result (λ marked. (number : ℕ) → Contains marked.found number
-        ↔ Reached (IsNext lists.now) (start ∷ []) number) }
+        ↔ Reached (IsNextFrom lists.now start ends) (start ∷ []) number) }
 {
     let mut marked = Marked::new(alloc, lists.len())?;
     marked.add(start)?;
     let mut i = 0;
     while i < marked.len() {
         let number = marked.at(i);
-        marked.extend(lists.at(number))?;
+        follow(lists, start, ends, &mut marked, number)?;
         i += 1;
     }
     Ok(marked)

@@ -12,6 +12,7 @@ ghost use Rattle.canonical_head.specs.Heads.{CoversHistories};
 ghost use Rattle.canonical_head.specs.Tables.{tells, AreRows, IsTable};
 
 use crate::ancestry::{Ancestry, ancestry_of};
+use crate::nearest::nearest_tips;
 use crate::search::{Marked, search};
 use commit_graph::{GetFault, Objects};
 use rad_base::Oid;
@@ -51,15 +52,16 @@ fn row(alloc: Global, tips: &[Oid], marked: &Marked) -> Result<BTreeSet<Oid>, Al
     Ok(row)
 }
 
-// The rows of the different tips, by one search for each.
+// The rows of the different tips, by one search over tips for each.
 fn rows_of(alloc: Global, ancestry: &Ancestry) -> Result<BTreeMap<Oid, BTreeSet<Oid>>, AllocError>
     requires { IsSound ancestry.now }
     ensures { IfOk result (λ rows. (m : ObjectMap) (tips : List Oid) → IsAncestry m tips ancestry.now
         → AreRows m tips ancestry.now.tips.items rows) }
 {
+    let nearest = nearest_tips(alloc, ancestry)?;
     let mut rows = BTreeMap::new(alloc);
     for number in 0..ancestry.tips.len() {
-        let marked = search(alloc, &ancestry.parents, number)?;
+        let marked = search(alloc, &nearest, number, 0)?;
         let row = row(alloc, &ancestry.tips, &marked)?;
         rows.insert(ancestry.tips[number], row)?;
     }

@@ -65,7 +65,7 @@ loop-i-preserved g c =
 pub returns-clause-sound : goal.returns-clause-sound
 returns-clause-sound g c =
     let commits = c.loop-i.commits in
-    let tips : c.truncate.new.self.items ≡ take c.len-count.result commits = c.truncate.ensures.items ∙ ap (take c.len-count.result) c.into_vec-different.ensures in
+    let tips : c.truncate.new.self.items ≡ take c.len-count.result commits = ◌∙◌ {A = List Oid} c.truncate.ensures.items (ap (take c.len-count.result) c.into_vec-different.ensures) in
     record {
       differ = subst AllDiffer (sym tips) (front_differ commits c.len-count.result c.len.ensures.differ);
       counted = omega (arith, ap length tips, length-take c.len-count.result commits, c.loop-i.invariant.turns, c.loop-i-test.false, c.len.ensures.counted);
@@ -75,7 +75,7 @@ returns-clause-sound g c =
 pub returns-clause-told : goal.returns-clause-told
 returns-clause-told g c = λ m e.
     let commits = c.loop-i.commits in
-    let tips : c.truncate.new.self.items ≡ take c.len-count.result commits = c.truncate.ensures.items ∙ ap (take c.len-count.result) c.into_vec-different.ensures in
+    let tips : c.truncate.new.self.items ≡ take c.len-count.result commits = ◌∙◌ {A = List Oid} c.truncate.ensures.items (ap (take c.len-count.result) c.into_vec-different.ensures) in
     let many : length c.loop-i.parents ≡ length commits = omega (arith, c.loop-i.invariant.turns, c.loop-i.invariant.within, c.loop-i-test.false, c.len.ensures.counted) in
     record {
       has = λ tip among. subst (λ (xs : List Oid). Contains xs tip) (sym tips) (c.loop-i.invariant.front tip among);

@@ -4,19 +4,10 @@ use Rattle.commit_graph.proofs.Spread.{spread_all, spread_follows}
 use Rattle.canonical_head.proofs.Marking.{next_follows}
 use Rattle.canonical_head.proofs.search.search.Goals as goal
 
-pub extend-requires : goal.extend-requires
-extend-requires c = λ number has.
-    omega (
-      arith,
-      c.requires.inside c.at-number.result number (record { row = c.at.result.now; there = c.at.ensures; among = has }),
-      c.loop-i.invariant.limit,
-    )
-
 pub loop-i-preserved : goal.loop-i-preserved
 loop-i-preserved c = record {
-  limit = c.in_ok-extend.ensures.limit ∙ c.loop-i.invariant.limit;
-  spread = spread_follows c.loop-i.i c.at-number.result c.at-number.ensures.at c.loop-i.invariant.spread
-      (next_follows c.at-number.result c.at.ensures c.in_ok-extend.ensures.ok);
+  limit = c.in_ok-follow.ensures.limit ∙ c.loop-i.invariant.limit;
+  spread = spread_follows c.loop-i.i c.at-number.result c.at-number.ensures.at c.loop-i.invariant.spread c.in_ok-follow.ensures.ok;
 }
 
 pub returns : goal.returns
