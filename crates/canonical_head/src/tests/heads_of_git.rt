@@ -1,7 +1,7 @@
-// Heads of small histories.
+// Heads of small histories, and those of the plain program.
 use super::histories::CASES;
 use crate::answer::Head;
-use crate::head;
+use crate::{head, head_by_histories};
 use commit_graph::MemObjects;
 use git_object::Kind;
 use rad_base::{NoMemory, Oid};
@@ -65,7 +65,8 @@ fn is_as_wanted(alloc: Global, case: &Case) -> Result<bool, Fail> {
         Wanted::At(number) => Head::At(name(&names, number)),
         Wanted::Diverging(a, b) => Head::Diverging(name(&names, a), name(&names, b)),
     };
-    Ok(head(alloc, &mut objects, &tips, case.threshold)? == wanted)
+    let plain = head_by_histories(alloc, &mut objects, &tips, case.threshold)?;
+    Ok(head(alloc, &mut objects, &tips, case.threshold)? == wanted && plain == wanted)
 }
 
 #[test]

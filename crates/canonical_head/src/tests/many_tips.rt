@@ -44,14 +44,17 @@ fn as_many_tips_as_there_can_be(rt: HostRuntime) -> Result<(), Fail> {
     Ok(())
 }
 
-// One walk looks up each commit once.
+// One walk looks up each commit once, for equal tips and for those in a line.
 #[test]
-fn equal_tips_take_one_walk(rt: HostRuntime) -> Result<(), Fail> {
+fn tips_take_one_walk(rt: HostRuntime) -> Result<(), Fail> {
     let (objects, tips) = chain_of(rt.alloc(), 20)?;
     let tip = tips.last().copied().unwrap_or(Oid([0; 20]));
     let mut counting = FailingObjects::new(&objects, Failure::Disk, u64::MAX);
     let found = head(rt.alloc(), &mut counting, &[tip; 255], 255)?;
     assert_eq!(rt; found, Head::At(tip));
     assert_eq!(rt; counting.looks(), 20);
+    let found = head(rt.alloc(), &mut counting, &tips, 1)?;
+    assert_eq!(rt; found, Head::At(tip));
+    assert_eq!(rt; counting.looks(), 40);
     Ok(())
 }
