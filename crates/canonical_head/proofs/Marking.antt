@@ -9,7 +9,7 @@ use Rattle.rad_base.proofs.Members.{contains_nothing}
 use Rattle.rad_base.proofs.Options.{one_value}
 use Rattle.commit_graph.specs.Lists.{Extends, Follows}
 use Rattle.commit_graph.proofs.PairSteps.{nothing_follows}
-use Rattle.canonical_head.specs.Ancestries.{GoesOn, IsNext, IsNextFrom}
+use Rattle.canonical_head.specs.Ancestries.{GoesOn, IsNextFrom}
 use Rattle.canonical_head.specs.Marks.{IsMarking}
 
 pub same_or_other : (a b : ℕ) → (a ≡ b) ⊎ (a ≢ b)

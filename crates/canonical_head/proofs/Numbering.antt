@@ -1,13 +1,11 @@
 -- Commits that get numbers.
-use Rattle.std.proofs.Common.{◌≡◌, ℕ, ◌+◌, ◌<◌, Bool, true, false, cond, List, [], ◌∷◌, ◌++◌, length, take, get_or, Option, Some, None, refl, sym, ap, subst, ⊎_elim, ◌∙◌}
+use Rattle.std.proofs.Common.{◌≡◌, ℕ, ◌+◌, ◌<◌, Bool, true, false, cond, List, [], ◌∷◌, ◌++◌, length, take, get_or, Option, Some, None, Result, Ok, Err, refl, sym, ap, subst, ⊎_elim, ◌∙◌}
 use Rattle.std.proofs.lemmas.Bool.{cases_Bool}
 use Rattle.std.proofs.lemmas.List.{take_more}
 use Rattle.std.proofs.lemmas.List.Elements.{Contains-append_left, Contains-push, Contains-push_cases}
 use Rattle.std.proofs.lemmas.Map.Views.{tells_apart}
-use Rattle.std.specs.BTreeMap.{BTreeMap, get, is_at}
-use Rattle.std.specs.Option.{option_copied}
-use Rattle.std.specs.Prelude.{Contains, slice_get}
-use denote.Ref.{Bor}
+use Rattle.std.specs.BTreeMap.{BTreeMap, Updates, get, is_at}
+use Rattle.std.specs.Prelude.{Contains, OnErr, OnOk, slice_get}
 use Rattle.rad_base.proofs.EachItem.{differ_more}
 use Rattle.rad_base.proofs.Members.{contains_nothing}
 use Rattle.rad_base.proofs.NameOrder.{oid_exact, equals_itself}
@@ -98,8 +96,48 @@ numbered_more {old} {cur} {new} {row} {row'} names i d n l h added at e =
     (subst (λ (xs : List Oid). IsNumberedAs old xs new (row ++ n ∷ [])) (sym (take_more names i d l))
     (record { grown = extends_push h.grown added; numbers = numbers_push n h.numbers added at }))
 
--- a look-up that found nothing
-pub none_left : {X : Type 0} (found : Option (Bor X)) → ((x : Bor X) → found ≡ Some x → ⊥)
-    → option_copied found ≡ None
+-- a number that was changed and changed back leaves all as it was
+put_back : (numbers changed back : BTreeMap Oid ℕ) (x : Oid) (old new : Option ℕ) → get oid_cmp numbers x ≡ old
+    → ((q : Oid) → get oid_cmp changed q ≡ cond (is_at (oid_cmp x) q) new (get oid_cmp numbers q))
+    → ((q : Oid) → get oid_cmp back q ≡ cond (is_at (oid_cmp x) q) old (get oid_cmp changed q))
+    → (q : Oid) → get oid_cmp back q ≡ get oid_cmp numbers q
+put_back numbers changed back x old new was u v q = ⊎_elim
+    (λ (b : is_at (oid_cmp x) q ≡ true).
+    v q ∙ ap (λ (t : Bool). cond t old (get oid_cmp changed q)) b ∙ sym was ∙ ap (get oid_cmp numbers) (tells_apart oid_exact x q b))
+    (λ (b : is_at (oid_cmp x) q ≡ false).
+    v q ∙ ap (λ (t : Bool). cond t old (get oid_cmp changed q)) b ∙ u q ∙ ap (λ (t : Bool). cond t new (get oid_cmp numbers q)) b)
+    (cases_Bool (is_at (oid_cmp x) q))
+
+numbered_same : (numbers back : BTreeMap Oid ℕ) (commits : List Oid) → ((q : Oid) → get oid_cmp back q ≡ get oid_cmp numbers q)
+    → IsNumbered numbers commits → IsNumbered back commits
+numbered_same numbers back commits u h = record {
+  same = λ oid i. (λ e. (h.same oid i).0 (sym (u oid) ∙ e), λ e. u oid ∙ (h.same oid i).1 e);
+  differ = h.differ;
+}
+
+-- a new number is taken back
+pub numbered_back : (numbers changed back : BTreeMap Oid ℕ) (commits : List Oid) (x : Oid) (new : Option ℕ)
+    → IsNumbered numbers commits → get oid_cmp numbers x ≡ None
+    → ((q : Oid) → get oid_cmp changed q ≡ cond (is_at (oid_cmp x) q) new (get oid_cmp numbers q))
+    → ((q : Oid) → get oid_cmp back q ≡ cond (is_at (oid_cmp x) q) None (get oid_cmp changed q))
+    → IsNumbered back commits
+numbered_back numbers changed back commits x new h was u v =
+    numbered_same numbers back commits (put_back numbers changed back x None new was u v) h
+
+-- a commit that was there gets its number again, which takes no memory
+pub numbered_again : {E : Type 0} (numbers changed back : BTreeMap Oid ℕ) (commits : List Oid) (x : Oid) (old new : ℕ)
+    (result : Result (Option ℕ) E) → IsNumbered numbers commits → get oid_cmp numbers x ≡ Some old
+    → ((q : Oid) → get oid_cmp changed q ≡ cond (is_at (oid_cmp x) q) (Some new) (get oid_cmp numbers q))
+    → OnOk result (Updates oid_cmp changed back x (Some old)) → OnErr result (get oid_cmp changed x ≡ None)
+    → IsNumbered back commits
+numbered_again numbers changed back commits x old new (Ok found) h was u v gone =
+    numbered_same numbers back commits (put_back numbers changed back x (Some old) (Some new) was u v.0) h
+numbered_again numbers changed back commits x old new (Err why) h was u v gone =
+    let there : get oid_cmp changed x ≡ Some new =
+    u x ∙ ap (λ (t : Bool). cond t (Some new) (get oid_cmp numbers x)) (equals_itself x.0) in
+    cc (there, gone)
+
+-- what is no value is none
+pub none_left : {X : Type 0} (found : Option X) → ((x : X) → found ≡ Some x → ⊥) → found ≡ None
 none_left None never = refl
 none_left (Some x) never = absurd (never x refl)

@@ -1,16 +1,15 @@
 -- Searches that end at some numbers, and rows of what they find.
-use Rattle.std.proofs.Common.{◌≡◌, ◌≢◌, ℕ, ◌+◌, ◌<◌, ◌≤◌, List, [], ◌∷◌, ◌++◌, ◌↔◌, length, Some, refl, sym, ap, subst, inl, inr, ◌⊎◌, ⊎_elim, ◌∙◌, arith, length-append}
+use Rattle.std.proofs.Common.{◌≡◌, ◌≢◌, ℕ, ◌<◌, ◌≤◌, List, [], ◌∷◌, ◌++◌, ◌↔◌, length, Some, refl, sym, ap, subst, inl, inr, ◌⊎◌, ⊎_elim, ◌∙◌, arith}
 use Rattle.std.proofs.lemmas.Bool.{cases_lt}
-use Rattle.std.proofs.lemmas.Option.{slice_get_within, slice_get-get_or}
+use Rattle.std.proofs.lemmas.Option.{slice_get-get_or}
 use Rattle.std.proofs.Common.{get_or}
 use Rattle.std.specs.Prelude.{Contains, slice_get}
 use Rattle.rad_base.proofs.Members.{contains_nothing, contains_head, contains_one, contains_at}
-use Rattle.rad_base.proofs.Options.{one_value}
 use Rattle.commit_graph.proofs.Walked.{reached_along, reached_root, reached_stays, reached_step}
 use Rattle.commit_graph.specs.Walks.{Reached}
 use Rattle.canonical_head.proofs.Marking.{HasBelow, same_or_other}
 use Rattle.canonical_head.proofs.Places.{at_push_cases}
-use Rattle.canonical_head.specs.Ancestries.{GoesOn, IsInside, IsNext, IsNextFrom, LeadAlike}
+use Rattle.canonical_head.specs.Ancestries.{IsNext, IsNextFrom, LeadAlike}
 
 -- a search that ends nowhere is one over the rows
 from_nowhere : (rows : List (List ℕ)) (j i : ℕ)

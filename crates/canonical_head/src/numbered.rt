@@ -59,15 +59,16 @@ impl Numbered {
         ensures err { OnErr result (self.new ≡ self.old) }
         ensures few { length self.new < 2 ^ 64 }
     {
-        if let Some(number) = self.numbers.get(&oid) {
-            return Ok(*number);
-        }
         let number = self.commits.len();
-        self.commits.push(oid)?;
-        match self.numbers.insert(oid, number) {
-            Ok(_) => Ok(number),
+        if let Some(old) = self.numbers.insert(oid, number)? {
+            // It was there, so its number stays.
+            let _ = self.numbers.insert(oid, old);
+            return Ok(old);
+        }
+        match self.commits.push(oid) {
+            Ok(()) => Ok(number),
             Err(_) => {
-                self.commits.pop();
+                self.numbers.remove(&oid);
                 Err(AllocError)
             }
         }

@@ -1,4 +1,4 @@
-use Rattle.std.proofs.Common.{refl, arith}
+use Rattle.std.proofs.Common.{arith}
 use Rattle.canonical_head.proofs.search.follow.Goals as goal
 
 pub extend-requires : goal.extend-requires

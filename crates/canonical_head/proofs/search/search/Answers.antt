@@ -1,7 +1,6 @@
 use Rattle.std.proofs.Common.{◌∙◌, arith}
 use Rattle.std.proofs.lemmas.List.{take_all}
 use Rattle.commit_graph.proofs.Spread.{spread_all, spread_follows}
-use Rattle.canonical_head.proofs.Marking.{next_follows}
 use Rattle.canonical_head.proofs.search.search.Goals as goal
 
 pub loop-i-preserved : goal.loop-i-preserved
