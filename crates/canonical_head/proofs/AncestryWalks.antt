@@ -68,7 +68,7 @@ parents_read m oid bytes parents there (inr h) =
     ))
 
 -- a walk over parents by their names is one over pairs
-pub along_pairs : (m : ObjectMap) (tips : List Oid) (oid : Oid) → Reached (IsParentOf m) tips oid
+along_pairs : (m : ObjectMap) (tips : List Oid) (oid : Oid) → Reached (IsParentOf m) tips oid
     → (tip : Oid) × Contains tips tip × InHistory m oid tip
 along_pairs m tips = reached_stays (λ (oid : Oid). (tip : Oid) × Contains tips tip × InHistory m oid tip)
     (λ tip c. (tip, c, reached_root (as_commit tip) (contains_head (as_commit tip) [])))

@@ -1,17 +1,14 @@
 -- Numbers that get marks.
-use Rattle.std.proofs.Common.{◌≡◌, ◌≢◌, ℕ, ◌+◌, ◌<◌, ◌≤◌, Bool, true, List, [], ◌∷◌, ◌++◌, length, get_or, set, Some, sym, ap, subst, inl, inr, ◌⊎◌, ⊎_elim, ◌∙◌, arith, get_or-set_same, get_or-set_other, refl, ◌↔◌}
+use Rattle.std.proofs.Common.{◌≡◌, ◌≢◌, ℕ, ◌+◌, ◌<◌, ◌≤◌, Bool, true, List, [], ◌∷◌, ◌++◌, length, get_or, set, Some, sym, ap, subst, inl, inr, ◌⊎◌, ⊎_elim, ◌∙◌, arith, get_or-set_same, get_or-set_other, ◌↔◌}
 use Rattle.std.proofs.Math.ListN.{length-set}
 use Rattle.std.proofs.lemmas.Bool.{cases_lt}
 use Rattle.std.proofs.lemmas.List.Elements.{Contains-append_left, Contains-push, Contains-push_cases}
 use Rattle.std.proofs.lemmas.Option.{slice_get_within, slice_get-get_or, get_or_from_slice_get}
 use Rattle.std.specs.Prelude.{Contains, slice_get}
 use Rattle.rad_base.proofs.Members.{contains_nothing}
-use Rattle.rad_base.proofs.Options.{one_value}
-use Rattle.commit_graph.specs.Lists.{Extends, Follows}
-use Rattle.commit_graph.proofs.PairSteps.{nothing_follows}
-use Rattle.canonical_head.specs.Ancestries.{GoesOn, IsNextFrom}
 use Rattle.canonical_head.specs.Marks.{IsMarking}
 
+-- numbers are one or two
 pub same_or_other : (a b : ℕ) → (a ≡ b) ⊎ (a ≢ b)
 same_or_other a b =
     ⊎_elim
@@ -52,45 +49,28 @@ marking_push marks found n l h i = (
       (same_or_other i n),
 )
 
--- a number is marked exactly where it was found
-pub marked_found : (marks : List Bool) (found : List ℕ) (n : ℕ) (mark : Bool) → n < length marks
-    → mark ≡ get_or marks n mark → mark ≡ true → IsMarking marks found → Contains found n
-marked_found marks found n mark l at e h =
-    (h n).0 (slice_get-get_or marks n mark l ∙ ap Some (sym at ∙ e))
-
+-- a number that was found is marked
 pub found_marked : (marks : List Bool) (found : List ℕ) (n : ℕ) (mark : Bool)
     → mark ≡ get_or marks n mark → IsMarking marks found → Contains found n → mark ≡ true
 found_marked marks found n mark at h c = at ∙ get_or_from_slice_get marks n true mark ((h n).1 c)
 
+-- and below the limit
 pub found_below : (marks : List Bool) (found : List ℕ) (n : ℕ) → IsMarking marks found
     → Contains found n → n < length marks
 found_below marks found n h c = slice_get_within marks n true ((h n).1 c)
-
--- where a search goes on from a number its row is added
-pub next_follows : {rows : List (List ℕ)} {row found found' : List ℕ} (start ends a : ℕ) → slice_get rows a ≡ Some row
-    → GoesOn start ends a → Extends found row found' → Follows (IsNextFrom rows start ends) a found found'
-next_follows {rows} {row} start ends a there on grown = record {
-  steps = row;
-  all = λ b s. subst (λ (xs : List ℕ). Contains xs b) (one_value s.next.there there) s.next.among;
-  only = λ b c. record { next = record { row = row; there = there; among = c }; on = on };
-  grown = grown;
-}
-
--- and where it ends nothing is
-pub end_follows : {rows : List (List ℕ)} {found : List ℕ} (start ends a : ℕ) → (GoesOn start ends a → ⊥)
-    → Follows (IsNextFrom rows start ends) a found found
-end_follows start ends a never = nothing_follows (λ b s. never s.on) refl
 
 -- the list has the numbers below n that were found
 abbrev pub HasBelow : List ℕ → List ℕ → ℕ → Type 0
 HasBelow found list n = (b : ℕ) → Contains list b ↔ ((b < n) × Contains found b)
 
+-- below nothing
 pub below_none : (found list : List ℕ) → list ≡ [] → HasBelow found list 0
 below_none found list e b = (
   λ c. absurd (contains_nothing b (subst (λ (xs : List ℕ). Contains xs b) e c)),
   λ r. absurd (omega (arith, r.0)),
 )
 
+-- one number more, which was found or not
 pub below_push : (found list list' : List ℕ) (n : ℕ)
     → (Contains found n × (list' ≡ list ++ n ∷ [])) ⊎ ((Contains found n → ⊥) × (list' ≡ list))
     → HasBelow found list n → HasBelow found list' (n + 1)

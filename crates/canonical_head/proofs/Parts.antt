@@ -14,7 +14,7 @@ part_kept numbers more span order within =
     ∙ take-append-le (span.to - span.from) (drop span.from numbers) more (omega (arith, order, within, length-drop span.from numbers))
 
 -- the parts stay what they are
-pub parts_kept : (numbers more : List ℕ) (spans : List Span) → AreSpans numbers spans
+parts_kept : (numbers more : List ℕ) (spans : List Span) → AreSpans numbers spans
     → map (part_of (numbers ++ more)) spans ≡ map (part_of numbers) spans
 parts_kept numbers more [] h = refl
 parts_kept numbers more (span ∷ spans) h =
@@ -27,7 +27,7 @@ parts_same numbers numbers' more spans spans' e f h =
     ap (map (part_of numbers')) f ∙ ap (λ (xs : List ℕ). map (part_of xs) spans) e ∙ parts_kept numbers more spans h
 
 -- and within the list
-pub spans_kept : (numbers more : List ℕ) (spans : List Span) → AreSpans numbers spans
+spans_kept : (numbers more : List ℕ) (spans : List Span) → AreSpans numbers spans
     → AreSpans (numbers ++ more) spans
 spans_kept numbers more [] h = tt
 spans_kept numbers more (span ∷ spans) h =
@@ -60,6 +60,7 @@ parts_pushed numbers numbers' more spans spans' span e f from to h =
     ∙ ap (λ (lists : List (List ℕ)). lists ++ part_of numbers' span ∷ []) (parts_same numbers numbers' more spans spans e refl h)
     ∙ ap (λ (list : List ℕ). map (part_of numbers) spans ++ list ∷ []) part
 
+-- what holds in any case holds at an error
 pub on_err : {T E P : Type 0} (result : Result T E) → P → OnErr result P
 on_err (Ok x) p = tt
 on_err (Err e) p = p

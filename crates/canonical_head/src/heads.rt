@@ -146,8 +146,8 @@ pub(crate) fn head_by(
 /// count as often as they stand. At most 255 tips.
 ///
 /// `NoQuorum` where there is no candidate; `At` the least candidate that has all candidates in its
-/// history; else `Diverging`. It never answers `NoBranch`. Each commit of the histories is looked up
-/// at most once, however many tips have it in theirs. `Err` is the fault of a look-up, or
+/// history; else `Diverging`. It never answers `NoBranch`. Each commit of the histories is looked
+/// up at most once, however many tips have it in theirs. `Err` is the fault of a look-up, or
 /// `NoMemory`.
 pub fn head<O: Objects>(
     alloc: Global,

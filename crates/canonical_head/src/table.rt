@@ -55,8 +55,8 @@ fn row(alloc: Global, tips: &[Oid], marked: &Marked) -> Result<BTreeSet<Oid>, Al
 // The rows of the different tips, by one search over tips for each.
 fn rows_of(alloc: Global, ancestry: &Ancestry) -> Result<BTreeMap<Oid, BTreeSet<Oid>>, AllocError>
     requires { IsSound ancestry.now }
-    ensures { IfOk result (λ rows. (m : ObjectMap) (tips : List Oid) → IsAncestry m tips ancestry.now
-        → AreRows m tips ancestry.now.tips.items rows) }
+    ensures { IfOk result (λ rows. (m : ObjectMap) (tips : List Oid)
+        → IsAncestry m tips ancestry.now → AreRows m tips ancestry.now.tips.items rows) }
 {
     let nearest = nearest_tips(alloc, ancestry)?;
     let mut rows = BTreeMap::new(alloc);
