@@ -17,7 +17,7 @@ use Rattle.commit_graph.proofs.PairSteps.{links_all, links_only, commit_kind}
 use Rattle.commit_graph.proofs.Repeats.{length_within}
 use Rattle.commit_graph.proofs.Spread.{Spread}
 use Rattle.commit_graph.proofs.Walked.{reached_root, reached_step, reached_stays}
-use Rattle.commit_graph.specs.Chains.{parents_in}
+use Rattle.commit_graph.specs.Chains.{linked_commits}
 use Rattle.commit_graph.specs.declared.root.Root.{Root}
 use Rattle.commit_graph.specs.Histories.{IsParent, InHistory}
 use Rattle.commit_graph.specs.Lists.{Extends, Follows}
@@ -31,7 +31,7 @@ use Rattle.canonical_head.specs.Heads.{CoversHistories}
 use Rattle.canonical_head.specs.Numbers.{AreNumbers}
 
 formed_parents : (m : ObjectMap) (oid : Oid) (bytes : List ℕ) → m oid ≡ Some (Commit, bytes)
-    → IsWellFormed Commit bytes → AreParents m oid (parents_in (links Commit bytes))
+    → IsWellFormed Commit bytes → AreParents m oid (linked_commits (links Commit bytes))
 formed_parents m oid bytes there formed parent =
     let found = links Commit bytes in
     let h : HasLinks m (as_commit oid) found = record {
@@ -49,7 +49,7 @@ formed_parents m oid bytes there formed parent =
           let link = map_from pair_of found (as_commit parent) (links_all h (as_commit parent) s.0) in
           let kind : link.0.kind ≡ Commit = some_is link.0.kind Commit (ap (λ (r : Root). r.kind) link.2) in
           let name : link.0.oid ≡ parent = ap (λ (r : Root). r.oid) link.2 in
-          subst (Contains (parents_in found)) name
+          subst (Contains (linked_commits found)) name
           (map_has (λ (l : LinkTo). l.oid) (filter is_commit_link found) link.0
           (filter_has is_commit_link found link.0 link.1 (ap (λ (k : Kind). is_commit_link (record { oid = link.0.oid; kind = k })) kind))),
     )

@@ -5,7 +5,7 @@ use Rattle.rad_base.specs.declared.names.Oid.{Oid}
 use Rattle.rad_base.specs.Lists.{AllDiffer}
 use Rattle.git_object.specs.declared.kind.Kind.TheVariants.{Commit}
 use Rattle.git_object.specs.Links.{links, IsWellFormed}
-use Rattle.commit_graph.specs.Chains.{parents_in}
+use Rattle.commit_graph.specs.Chains.{linked_commits}
 use Rattle.commit_graph.specs.Histories.{IsParent, InHistory}
 use Rattle.commit_graph.specs.Lists.{Extends}
 use Rattle.commit_graph.specs.Objects.{ObjectMap}
@@ -25,7 +25,7 @@ AreParents objects oid parents = (parent : Oid) → Contains parents parent ↔ 
 -- these are the parents that the content of a commit names; none where it is malformed
 abbrev pub ReadsParents : List ℕ → List Oid → Type 0
 ReadsParents bytes parents =
-    (IsWellFormed Commit bytes × (parents ≡ parents_in (links Commit bytes))) ⊎ ((IsWellFormed Commit bytes → ⊥) × (parents ≡ []))
+    (IsWellFormed Commit bytes × (parents ≡ linked_commits (links Commit bytes))) ⊎ ((IsWellFormed Commit bytes → ⊥) × (parents ≡ []))
 
 -- the names are on the new list, which is the old one with those that it lacked, and the row has their places there
 pub record IsNumberedAs (old names new : List Oid) (row : List ℕ) : Type 0 where
@@ -66,7 +66,7 @@ pub record LeadAlike (rows : List (List ℕ)) (count : ℕ) (short : List (List 
   pub alike : (i j : ℕ) → i < count → j < count → Reached (IsNext short) (j ∷ []) i ↔ Reached (IsNext rows) (j ∷ []) i
 
 -- each tip stands once, and each number has a row
-pub record IsSound (ancestry : Ancestry) : Type 0 where
+pub record IsWellNumbered (ancestry : Ancestry) : Type 0 where
   pub differ : AllDiffer ancestry.tips.items
   pub counted : length ancestry.tips.items ≤ length ancestry.parents
   pub inside : IsInside ancestry.parents

@@ -4,7 +4,7 @@ ghost use Rattle.std.specs.Option.{ForSome};
 ghost use Rattle.rad_base.specs.declared.names.Oid.{Oid};
 ghost use Rattle.commit_graph.specs.Faults.{KeepsObjects};
 ghost use Rattle.canonical_head.specs.Heads.{CoversHistories};
-ghost use Rattle.canonical_head.specs.Ancestries.{AddsParents, IsAncestry, IsSound};
+ghost use Rattle.canonical_head.specs.Ancestries.{AddsParents, IsAncestry, IsWellNumbered};
 
 use crate::adjacency::Adjacency;
 use crate::numbered::Numbered;
@@ -50,7 +50,7 @@ pub(crate) fn ancestry_of<O: Objects>(
     objects: &mut O,
     tips: &[Oid],
 ) -> Result<Ancestry, GetFault>
-    ensures sound { IfOk result IsSound }
+    ensures sound { IfOk result IsWellNumbered }
     ensures told { ForSome (O.content objects.old) (λ m. IfOk result (IsAncestry m tips.now)) }
     ensures keeps { KeepsObjects O.content O.beside O.places O.faults Some objects.old objects.new
         result }

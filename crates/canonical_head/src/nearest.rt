@@ -1,6 +1,6 @@
 // The nearest tips in the histories of tips.
 ghost use Rattle.std.specs.Prelude.{ℕ, ◌<◌, ◌↔◌, length, Contains, IfOk};
-ghost use Rattle.canonical_head.specs.Ancestries.{IsSound, LeadAlike};
+ghost use Rattle.canonical_head.specs.Ancestries.{IsWellNumbered, LeadAlike};
 
 use crate::adjacency::Adjacency;
 use crate::ancestry::Ancestry;
@@ -24,7 +24,7 @@ fn found_below(alloc: Global, marked: &Marked, limit: usize) -> Result<Vec<usize
 /// For each tip the tips to which parents lead from it with no tip between. Over all of them these
 /// lead to the same tips as the parents do.
 pub(crate) fn nearest_tips(alloc: Global, ancestry: &Ancestry) -> Result<Adjacency, AllocError>
-    requires { IsSound ancestry.now }
+    requires { IsWellNumbered ancestry.now }
     ensures { IfOk result
         (LeadAlike ancestry.now.parents (length ancestry.now.tips.items)) }
 {

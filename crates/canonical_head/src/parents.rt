@@ -1,7 +1,7 @@
 // The parents of a commit.
 ghost use Rattle.std.specs.Prelude.{◌≡◌, ◌≤◌, ◌+◌, IfOk, IfErr};
 ghost use Rattle.std.specs.Option.{ForSome};
-ghost use Rattle.commit_graph.specs.Chains.{parents_in};
+ghost use Rattle.commit_graph.specs.Chains.{linked_commits};
 ghost use Rattle.commit_graph.specs.Faults.{KeepsObjects};
 ghost use Rattle.canonical_head.specs.Ancestries.{AreParents, ReadsParents};
 
@@ -12,7 +12,7 @@ use std::alloc::{AllocError, Global};
 
 // Those of the links that lead to commits, by their names.
 fn commits_among(alloc: Global, links: &[LinkTo]) -> Result<Vec<Oid>, AllocError>
-    ensures { IfOk result (λ parents. parents.items ≡ parents_in links.now) }
+    ensures { IfOk result (λ parents. parents.items ≡ linked_commits links.now) }
 {
     links
         .iter()

@@ -4,7 +4,7 @@ ghost use Rattle.std.specs.Option.{ForSome};
 ghost use Rattle.std.specs.BTreeSet.{contains};
 ghost use Rattle.rad_base.specs.Order.{oid_cmp};
 ghost use Rattle.commit_graph.specs.Faults.{KeepsObjects};
-ghost use Rattle.commit_graph.specs.Histories.{HasCommit};
+ghost use Rattle.commit_graph.specs.Histories.{ListsCommit};
 ghost use Rattle.canonical_head.specs.Heads.{IsHead};
 ghost use Rattle.canonical_head.specs.Tables.{AreRows, IsTable};
 
@@ -19,7 +19,7 @@ use std::collections::{BTreeMap, BTreeSet};
 // Those of the tips that are commits of the history.
 fn row(alloc: Global, history: &History, tips: &[Oid]) -> Result<BTreeSet<Oid>, AllocError>
     ensures { IfOk result (λ row. (old : Oid) → Contains tips.now old
-        → IsTrue (contains oid_cmp row old) ↔ HasCommit history.now old) }
+        → IsTrue (contains oid_cmp row old) ↔ ListsCommit history.now old) }
 {
     let mut row = BTreeSet::new(alloc);
     for tip in tips {

@@ -7,7 +7,7 @@ ghost use Rattle.rad_base.specs.Lists.{AllDiffer};
 ghost use Rattle.rad_base.specs.Order.{oid_cmp};
 ghost use Rattle.commit_graph.specs.Faults.{KeepsObjects};
 ghost use Rattle.commit_graph.specs.Objects.{ObjectMap};
-ghost use Rattle.canonical_head.specs.Ancestries.{IsAncestry, IsFoundTip, IsSound};
+ghost use Rattle.canonical_head.specs.Ancestries.{IsAncestry, IsFoundTip, IsWellNumbered};
 ghost use Rattle.canonical_head.specs.Heads.{CoversHistories};
 ghost use Rattle.canonical_head.specs.Tables.{tells, AreRows, IsTable};
 
@@ -54,7 +54,7 @@ fn row(alloc: Global, tips: &[Oid], marked: &Marked) -> Result<BTreeSet<Oid>, Al
 
 // The rows of the different tips, by one search over tips for each.
 fn rows_of(alloc: Global, ancestry: &Ancestry) -> Result<BTreeMap<Oid, BTreeSet<Oid>>, AllocError>
-    requires { IsSound ancestry.now }
+    requires { IsWellNumbered ancestry.now }
     ensures { IfOk result (λ rows. (m : ObjectMap) (tips : List Oid)
         → IsAncestry m tips ancestry.now → AreRows m tips ancestry.now.tips.items rows) }
 {

@@ -23,7 +23,7 @@ use Rattle.commit_graph.specs.Walks.{Walk}
 use Rattle.commit_graph.specs.Closures.{IsClosed, IsReached}
 use Rattle.commit_graph.specs.Histories.{IsParent, InHistory, CoversHistory}
 use Rattle.rad_base.specs.Lists.{AllDiffer}
-use Rattle.commit_graph.specs.Chains.{HasParents, IsOnlyParent, IsChain, IsLine, IsReturn, parents_in}
+use Rattle.commit_graph.specs.Chains.{HasParents, IsOnlyParent, IsChain, IsLine, IsReturn, linked_commits}
 use Rattle.commit_graph.proofs.PairSteps.{commit_kind, unfit_apart}
 use Rattle.commit_graph.proofs.HistoryWalks.{history_itself}
 use Rattle.commit_graph.proofs.Repeats.{length_within}
@@ -121,7 +121,7 @@ line_chain {m} {tip} {oid} {pairs} {pairs'} {names} h e n first =
 only_link : (m : ObjectMap) (child parent : Oid) → IsOnlyParent m parent child
     → IsLink m (as_commit child) (as_commit parent)
 only_link m child parent h =
-    let here : Contains (parents_in (links Commit h.bytes)) parent = subst (λ (xs : List Oid). Contains xs parent) h.are (contains_head parent []) in
+    let here : Contains (linked_commits (links Commit h.bytes)) parent = subst (λ (xs : List Oid). Contains xs parent) h.are (contains_head parent []) in
     let image = map_from (λ (link : LinkTo). link.oid) (filter is_commit_link (links Commit h.bytes)) parent here in
     let kept = filter_from is_commit_link (links Commit h.bytes) image.0 image.1 in
     let same : pair_of image.0 ≡ as_commit parent =
@@ -195,22 +195,22 @@ line_parents {m} {tip} {oid} closed h told =
     let held = closed (as_commit oid) (line_reached m (as_commit tip ∷ []) tip h.commits oid (reached_root (as_commit tip) (contains_head (as_commit tip) [])) h.walked) in
     let fit = held.fit in
     let kind : fit.kind ≡ Commit = sym fit.expected in
-    let has : HasParents m oid (parents_in (links Commit fit.bytes)) = record {
+    let has : HasParents m oid (linked_commits (links Commit fit.bytes)) = record {
       bytes = fit.bytes;
       there = fit.there ∙ ap (λ (k : Kind). Some (k, fit.bytes)) kind;
       formed = subst (λ (k : Kind). IsWellFormed k fit.bytes) kind fit.formed;
       are = refl;
     } in
-    subst (HasParents m oid) (told (parents_in (links Commit fit.bytes)) has) has
+    subst (HasParents m oid) (told (linked_commits (links Commit fit.bytes)) has) has
 
 -- the parents that were read are those of the commit
 pub parents_read : {m : ObjectMap} {p : Root} {oid : Oid} {found : List LinkTo} {items : List Oid}
-    → HasLinks m p found → p ≡ as_commit oid → items ≡ parents_in found → (each : List Oid)
+    → HasLinks m p found → p ≡ as_commit oid → items ≡ linked_commits found → (each : List Oid)
     → HasParents m oid each → each ≡ items
 parents_read {m} {p} {oid} {found} h e are each has =
     let there : m oid ≡ Some (h.fit.kind, h.fit.bytes) = ap (λ (q : Root). m q.oid) (sym e) ∙ h.fit.there in
     let same : (h.fit.kind, h.fit.bytes) ≡ (Commit, has.bytes) = one_value there has.there in
-    has.are ∙ ap (λ (o : Object). parents_in (links o.0 o.1)) (sym same) ∙ ap parents_in (sym h.are) ∙ sym are
+    has.are ∙ ap (λ (o : Object). linked_commits (links o.0 o.1)) (sym same) ∙ ap linked_commits (sym h.are) ∙ sym are
 
 -- a pair that is missing or unfit is no commit that has parents
 pub parents_none : {m : ObjectMap} {p : Root} {oid : Oid} {shown : Looked} → Shows m p shown

@@ -19,12 +19,12 @@ use Rattle.git_object.specs.declared.kind.Kind.{Kind}
 use Rattle.commit_graph.specs.Objects.{Object}
 use Rattle.commit_graph.specs.InMemory.{objects_in}
 use Rattle.commit_graph.specs.declared.memory.Held.{Held}
-use Rattle.commit_graph.specs.Memory.{AreNamed, is_there, object_of, objects_of}
+use Rattle.commit_graph.specs.Memory.{AreNamed, is_there, object_of, held_objects}
 use Rattle.commit_graph.proofs.Named.{objects_behind}
 
 -- what a test of the names lets through, by a look-up
 pub found_by : (p : Oid → Bool) (es : List (Oid × Held)) → AreNamed es → (oid : Oid)
-    → objects_in (objects_of (filter (λ e. p e.0) es)) oid ≡ cond (p oid) (option_map object_of (lookup (is_at (oid_cmp oid)) es)) None
+    → objects_in (held_objects (filter (λ e. p e.0) es)) oid ≡ cond (p oid) (option_map object_of (lookup (is_at (oid_cmp oid)) es)) None
 found_by p [] named oid = by_test (p oid)
   where
     by_test : (b : Bool) → None ≡ cond b (option_map object_of (lookup (is_at (oid_cmp oid)) [])) None
@@ -35,9 +35,9 @@ found_by p (e ∷ es) named oid = by_tests (found_by p es named.1 oid) (p e.0) r
     key : is_at (oid_cmp oid) (name e.1.kind e.1.bytes.items) ≡ is_at (oid_cmp oid) e.0
     key = ap (λ (o : Oid). is_at (oid_cmp oid) o) named.0
 
-    by_tests : objects_in (objects_of (filter (λ x. p x.0) es)) oid ≡ cond (p oid) (option_map object_of (lookup (is_at (oid_cmp oid)) es)) None
+    by_tests : objects_in (held_objects (filter (λ x. p x.0) es)) oid ≡ cond (p oid) (option_map object_of (lookup (is_at (oid_cmp oid)) es)) None
         → (b : Bool) → p e.0 ≡ b → (k : Bool) → is_at (oid_cmp oid) e.0 ≡ k
-        → objects_in (objects_of (filter (λ x. p x.0) (e ∷ es))) oid ≡ cond (p oid) (option_map object_of (lookup (is_at (oid_cmp oid)) (e ∷ es))) None
+        → objects_in (held_objects (filter (λ x. p x.0) (e ∷ es))) oid ≡ cond (p oid) (option_map object_of (lookup (is_at (oid_cmp oid)) (e ∷ es))) None
     by_tests rest true h true k =
         let same : oid ≡ e.0 = oid_exact oid e.0 (equal_from_is_eq _ k) in
         let here : p oid ≡ true = ap p same ∙ h in
@@ -51,7 +51,7 @@ found_by p (e ∷ es) named oid = by_tests (found_by p es named.1 oid) (p e.0) r
 
 -- what is there, by a look-up
 pub found_there : (staged : BTreeSet Oid) (es : List (Oid × Held)) → AreNamed es → (oid : Oid)
-    → objects_in (objects_of (filter (is_there staged) es)) oid ≡ cond (not (contains oid_cmp staged oid)) (option_map object_of (lookup (is_at (oid_cmp oid)) es)) None
+    → objects_in (held_objects (filter (is_there staged) es)) oid ≡ cond (not (contains oid_cmp staged oid)) (option_map object_of (lookup (is_at (oid_cmp oid)) es)) None
 found_there staged es named oid = found_by (λ o. not (contains oid_cmp staged o)) es named oid
 
 -- a test that lets all through
@@ -61,8 +61,8 @@ filter_all (e ∷ es) = ap (λ (l : List (Oid × Held)). e ∷ l) (filter_all es
 
 -- what is held, by a look-up
 pub found_held : (es : List (Oid × Held)) → AreNamed es → (oid : Oid)
-    → objects_in (objects_of es) oid ≡ option_map object_of (lookup (is_at (oid_cmp oid)) es)
-found_held es named oid = ap (λ (l : List (Oid × Held)). objects_in (objects_of l) oid) (sym (filter_all es)) ∙ found_by (λ _. true) es named oid
+    → objects_in (held_objects es) oid ≡ option_map object_of (lookup (is_at (oid_cmp oid)) es)
+found_held es named oid = ap (λ (l : List (Oid × Held)). objects_in (held_objects l) oid) (sym (filter_all es)) ∙ found_by (λ _. true) es named oid
 
 -- ---- one object more
 
@@ -99,13 +99,13 @@ is_some_mapped (Some x) = refl
 
 -- an object that is held under its name is not put again
 pub put_again : (held : BTreeMap Oid Held) (oid : Oid) (kind : Kind) (bytes : List ℕ) → oid ≡ name kind bytes → AreNamed held.entries → is_some (get oid_cmp held oid) ≡ true
-    → objects_in (objects_of held.entries) ≡ objects_in (objects_of held.entries ++ (kind, bytes) ∷ [])
-put_again held oid kind bytes is named there = λ i q. (by_name q (is_at (oid_cmp q) oid) refl (objects_in (objects_of held.entries) q) refl) i
+    → objects_in (held_objects held.entries) ≡ objects_in (held_objects held.entries ++ (kind, bytes) ∷ [])
+put_again held oid kind bytes is named there = λ i q. (by_name q (is_at (oid_cmp q) oid) refl (objects_in (held_objects held.entries) q) refl) i
   where
-    by_name : (q : Oid) (b : Bool) → is_at (oid_cmp q) oid ≡ b → (o : Option Object) → objects_in (objects_of held.entries) q ≡ o
-        → objects_in (objects_of held.entries) q ≡ objects_in (objects_of held.entries ++ (kind, bytes) ∷ []) q
-    by_name q b h (Some x) e = rw (objects_behind (objects_of held.entries) ((kind, bytes) ∷ []) q, e) refl
-    by_name q false h None e = rw (objects_behind (objects_of held.entries) ((kind, bytes) ∷ []) q, e, ← is, h) refl
+    by_name : (q : Oid) (b : Bool) → is_at (oid_cmp q) oid ≡ b → (o : Option Object) → objects_in (held_objects held.entries) q ≡ o
+        → objects_in (held_objects held.entries) q ≡ objects_in (held_objects held.entries ++ (kind, bytes) ∷ []) q
+    by_name q b h (Some x) e = rw (objects_behind (held_objects held.entries) ((kind, bytes) ∷ []) q, e) refl
+    by_name q false h None e = rw (objects_behind (held_objects held.entries) ((kind, bytes) ∷ []) q, e, ← is, h) refl
     by_name q true h None e =
         let some : is_some (option_map object_of (get oid_cmp held q)) ≡ false = ap is_some (sym (found_held held.entries named q) ∙ e) in
         let at : is_some (get oid_cmp held q) ≡ true = ap (λ (o : Oid). is_some (get oid_cmp held o)) (same_name q oid h) ∙ there in
@@ -119,12 +119,12 @@ or_nothing (Some x) = refl
 pub staged_pending : (held held' : BTreeMap Oid Held) (oid : Oid) (object : Held) → name object.kind object.bytes.items ≡ oid → AreNamed held.entries → AreNamed held'.entries
     → get oid_cmp held oid ≡ None
     → ((q : Oid) → get oid_cmp held' q ≡ cond (is_at (oid_cmp oid) q) (Some object) (get oid_cmp held q))
-    → objects_in (objects_of held'.entries) ≡ objects_in (objects_of held.entries ++ object_of object ∷ [])
+    → objects_in (held_objects held'.entries) ≡ objects_in (held_objects held.entries ++ object_of object ∷ [])
 staged_pending held held' oid object is named named' absent puts = λ i q.
-    (found_held held'.entries named' q ∙ by_name q (is_at (oid_cmp oid) q) refl ∙ sym (objects_behind (objects_of held.entries) (object_of object ∷ []) q)) i
+    (found_held held'.entries named' q ∙ by_name q (is_at (oid_cmp oid) q) refl ∙ sym (objects_behind (held_objects held.entries) (object_of object ∷ []) q)) i
   where
     by_name : (q : Oid) (b : Bool) → is_at (oid_cmp oid) q ≡ b
-        → option_map object_of (get oid_cmp held' q) ≡ option_or (objects_in (objects_of held.entries) q) (cond (is_at (oid_cmp q) (name object.kind object.bytes.items)) (Some (object_of object)) None)
+        → option_map object_of (get oid_cmp held' q) ≡ option_or (objects_in (held_objects held.entries) q) (cond (is_at (oid_cmp q) (name object.kind object.bytes.items)) (Some (object_of object)) None)
     by_name q true h =
         let none : get oid_cmp held q ≡ None = ap (get oid_cmp held) (sym (same_name oid q h)) ∙ absent in
         rw (found_held held.entries named q, puts q, h, none, is, turned q oid, h) refl

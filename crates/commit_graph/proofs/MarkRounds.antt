@@ -12,14 +12,14 @@ use Rattle.commit_graph.specs.declared.root.Root.{Root}
 use Rattle.commit_graph.specs.declared.marked.Marks.{Marks}
 use Rattle.commit_graph.specs.Pairs.{oid_of}
 use Rattle.commit_graph.specs.Backward.{LinksTo, before_in}
-use Rattle.commit_graph.specs.Marking.{Finds, MarkedBy, mark_in, queue_in, MarksAll, RisesByName, AreMarks}
+use Rattle.commit_graph.specs.Marking.{FindsSource, MarkedBy, mark_in, queue_in, MarksAll, RisesByName, AreMarks}
 use Rattle.commit_graph.proofs.MarkedBack.{Marking, Sets, at_most_itself, at_most_along, marking_turn, marking_source, source_marked, sourced_stays, drop_none}
 
 -- between two rounds
 pub record Rounds (Step : Root → Root → Type 0) (sources : List Root) (k : ℕ) (marks : Marks) (i : ℕ) : Type 0 where
   pub cursor : i ≡ length (queue_in marks)
   pub sourced : (s : Root) → Contains (take k sources) s → MarkedBy (mark_in marks) s s.oid
-  pub sound : (p : Root) (oid : Oid) → mark_in marks p ≡ Some oid → Finds Step (Contains sources) oid_of p oid
+  pub sound : (p : Root) (oid : Oid) → mark_in marks p ≡ Some oid → FindsSource Step (Contains sources) oid_of p oid
   pub back : (p q : Root) (oid : Oid) → mark_in marks q ≡ Some oid → Step p q → MarkedBy (mark_in marks) p oid
   pub next : (j : ℕ) (y : Root) → k ≤ j → slice_get sources j ≡ Some y → Marking Step (Contains sources) oid_of (mark_in marks) (queue_in marks) i y.oid
 

@@ -14,7 +14,7 @@ use Rattle.rad_base.proofs.NameOrder.{oid_total, oid_exact, not_below_itself}
 use Rattle.rad_base.proofs.Members.{contains_nothing}
 use Rattle.rad_base.proofs.Options.{one_value, not_nothing}
 use Rattle.commit_graph.specs.Walks.{Walk}
-use Rattle.commit_graph.specs.Marking.{AtMost, Finds, MarkedBy}
+use Rattle.commit_graph.specs.Marking.{AtMost, FindsSource, MarkedBy}
 
 pub at_most_itself : (a : Oid) → AtMost a a
 at_most_itself a h = not_below_itself a.0 h
@@ -74,13 +74,13 @@ module _ {X : Type 0} where
 
 -- a step before a walk
 pub finds_step : {X : Type 0} (Step : X → X → Type 0) (P : X → Type 0) (name : X → Oid) (p q : X) (oid : Oid) → Step p q
-    → Finds Step P name q oid → Finds Step P name p oid
+    → FindsSource Step P name q oid → FindsSource Step P name p oid
 finds_step Step P name p q oid s h = record { source = h.source; holds = h.holds; path = q ∷ h.path; walk = (s, h.walk); named = h.named }
 
 -- the marks of the pairs done are followed backwards, and each mark is the name of a source that is reached
 pub record Marking {X : Type 0} (Step : X → X → Type 0) (P : X → Type 0) (name : X → Oid)
     (mark : X → Option Oid) (queue : List X) (i : ℕ) (top : Oid) : Type 0 where
-  pub sound : (p : X) (oid : Oid) → mark p ≡ Some oid → Finds Step P name p oid
+  pub sound : (p : X) (oid : Oid) → mark p ≡ Some oid → FindsSource Step P name p oid
   pub queued : (p : X) (oid : Oid) → mark p ≡ Some oid → Contains queue p
   pub bound : (p : X) (oid : Oid) → mark p ≡ Some oid → AtMost oid top
   pub back : (p q : X) (oid : Oid) → Contains (take i queue) q → mark q ≡ Some oid → Step p q → MarkedBy mark p oid
@@ -103,7 +103,7 @@ module _ {X : Type 0} (Step : X → X → Type 0) (P : X → Type 0) (name : X �
       (mine.0, mine.1, at_most_along mine.0 next.0 (name s) mine.2 next.2)
 
   -- so a mark is at most the name of each source that is reached
-  pub mark_least : (p : X) (oid : Oid) → mark p ≡ Some oid → (other : Oid) → Finds Step P name p other → oid_cmp other oid ≡ Less → ⊥
+  pub mark_least : (p : X) (oid : Oid) → mark p ≡ Some oid → (other : Oid) → FindsSource Step P name p other → oid_cmp other oid ≡ Less → ⊥
   mark_least p oid e other f below =
       let m = marked_walk p f.path f.source f.holds f.walk in
       let same : m.0 ≡ oid = one_value m.1 e in
@@ -111,7 +111,7 @@ module _ {X : Type 0} (Step : X → X → Type 0) (P : X → Type 0) (name : X �
       (subst (λ (x : Oid). oid_cmp x oid ≡ Less) (sym f.named) below))
 
   -- and a pair without a mark reaches no source
-  pub no_mark : (p : X) → mark p ≡ None → (other : Oid) → Finds Step P name p other → ⊥
+  pub no_mark : (p : X) → mark p ≡ None → (other : Oid) → FindsSource Step P name p other → ⊥
   no_mark p e other f =
       let m = marked_walk p f.path f.source f.holds f.walk in
       not_nothing m.1 e
@@ -161,10 +161,10 @@ module _ {X : Type 0} {Step : X → X → Type 0} {P : X → Type 0} {name : X �
   marked : mark x ≡ Some top
   marked = h.fresh x (drop_here queue i x at)
 
-  turn_sound : (p : X) (oid : Oid) → mark' p ≡ Some oid → Finds Step P name p oid
+  turn_sound : (p : X) (oid : Oid) → mark' p ≡ Some oid → FindsSource Step P name p oid
   turn_sound p oid e =
       ⊎_elim (λ a. h.sound p oid a)
-      (λ a. subst (Finds Step P name p) (sym a.1) (finds_step Step P name p x top a.0 (h.sound x top marked)))
+      (λ a. subst (FindsSource Step P name p) (sym a.1) (finds_step Step P name p x top a.0 (h.sound x top marked)))
       (g.only p oid e)
 
   turn_back : (p q : X) (oid : Oid) → Contains (take (i + 1) queue') q → mark' q ≡ Some oid → Step p q → MarkedBy mark' p oid

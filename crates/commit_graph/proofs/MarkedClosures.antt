@@ -16,7 +16,7 @@ use Rattle.commit_graph.specs.Walks.{Walk}
 use Rattle.commit_graph.specs.Closures.{IsReached, IsReachedAs, IsLeast, HasNone, IsHeld, IsClosure, IsMissingName, IsUnfitName}
 use Rattle.commit_graph.specs.Looks.{answer_of}
 use Rattle.commit_graph.specs.Backward.{LinksTo}
-use Rattle.commit_graph.specs.Marking.{AreMarks, Finds, mark_in}
+use Rattle.commit_graph.specs.Marking.{AreMarks, FindsSource, mark_in}
 use Rattle.commit_graph.specs.Webs.{IsWeb}
 use Rattle.commit_graph.proofs.MarkedBack.{mark_least, no_mark}
 use Rattle.commit_graph.proofs.PairOrder.{pair_cmp, pair_exact, pair_total}
@@ -49,7 +49,7 @@ module _ (m : ObjectMap) (roots : List Root) (web : Web) (is : IsWeb m roots web
 
     module _ (P : Root → Type 0) (set : BTreeSet Root) (those : HasReached m roots P set) (marks : Marks) (are : AreMarks web.back set.keys marks) where
       finds : (oid : Oid) → IsReachedAs m (root ∷ []) P oid
-          → Finds (LinksTo web.back) (Contains set.keys) oid_of root oid
+          → FindsSource (LinksTo web.back) (Contains set.keys) oid_of root oid
       finds oid r =
           let w = kept r.pair r.reached in
           record {
@@ -60,7 +60,7 @@ module _ (m : ObjectMap) (roots : List Root) (web : Web) (is : IsWeb m roots web
             named = r.name;
           }
 
-      found : (oid : Oid) → Finds (LinksTo web.back) (Contains set.keys) oid_of root oid
+      found : (oid : Oid) → FindsSource (LinksTo web.back) (Contains set.keys) oid_of root oid
           → IsReachedAs m (root ∷ []) P oid
       found oid f = record {
         pair = f.source;

@@ -15,7 +15,7 @@ use Rattle.commit_graph.specs.declared.answer.Closure.{Closure}
 use Rattle.commit_graph.specs.declared.answer.Closure.TheVariants.{Closed, Missing, BadObject}
 use Rattle.commit_graph.specs.Objects.{Object, ObjectMap}
 use Rattle.commit_graph.specs.Closures.{IsClosed, IsClosure, IsLeast, IsMissingName, IsUnfitName}
-use Rattle.commit_graph.specs.Chains.{HasParents, IsOnlyParent, IsChain, IsLine, parents_in}
+use Rattle.commit_graph.specs.Chains.{HasParents, IsOnlyParent, IsChain, IsLine, linked_commits}
 use Rattle.commit_graph.specs.Walks.{Walk}
 use Rattle.commit_graph.proofs.ChainLines.{line_more}
 use Rattle.commit_graph.proofs.PairSteps.{missing_unfit, unfit_apart}
@@ -59,7 +59,7 @@ pub one_parents : (objects : ObjectMap) (oid : Oid) (a b : List Oid) → HasPare
     → HasParents objects oid b → a ≡ b
 one_parents objects oid a b h k =
     let same : (Commit, h.bytes) ≡ (Commit, k.bytes) = one_value h.there k.there in
-    h.are ∙ ap (λ (o : Object). parents_in (links Commit o.1)) same ∙ sym k.are
+    h.are ∙ ap (λ (o : Object). linked_commits (links Commit o.1)) same ∙ sym k.are
 
 -- no commit has one parent and none
 none_and_one : (objects : ObjectMap) (oid parent : Oid) → HasParents objects oid []

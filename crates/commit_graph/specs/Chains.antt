@@ -13,15 +13,15 @@ use Rattle.commit_graph.specs.Pairs.{is_commit_link}
 use Rattle.commit_graph.specs.Walks.{Walk}
 
 -- the links to commits, in order
-abbrev pub parents_in : List LinkTo → List Oid
-parents_in found = map (λ link. link.oid) (filter is_commit_link found)
+abbrev pub linked_commits : List LinkTo → List Oid
+linked_commits found = map (λ link. link.oid) (filter is_commit_link found)
 
 -- the name has a commit, which is well formed and has these parents in order
 pub record HasParents (objects : ObjectMap) (oid : Oid) (parents : List Oid) : Type 0 where
   pub bytes : List ℕ
   pub there : objects oid ≡ Some (Commit, bytes)
   pub formed : IsWellFormed Commit bytes
-  pub are : parents ≡ parents_in (links Commit bytes)
+  pub are : parents ≡ linked_commits (links Commit bytes)
 
 -- the first is the only parent of the second
 abbrev pub IsOnlyParent : ObjectMap → Oid → Oid → Type 0

@@ -20,5 +20,5 @@ abbrev pub CoversHistory : ObjectMap → Oid → List Oid → Type 0
 CoversHistory objects new commits = (old : Oid) → InHistory objects old new → Contains commits old
 
 -- the list of pairs has this commit
-abbrev pub HasCommit : List Root → Oid → Type 0
-HasCommit found oid = Contains found (as_commit oid)
+abbrev pub ListsCommit : List Root → Oid → Type 0
+ListsCommit found oid = Contains found (as_commit oid)

@@ -35,7 +35,7 @@ abbrev pub AtMost : Oid → Oid → Type 0
 AtMost a b = oid_cmp b a ≡ Less → ⊥
 
 -- a walk from p leads to a source of this name
-pub record Finds {X : Type 0} (Step : X → X → Type 0) (IsSource : X → Type 0) (name : X → Oid) (p : X) (oid : Oid) : Type 0 where
+pub record FindsSource {X : Type 0} (Step : X → X → Type 0) (IsSource : X → Type 0) (name : X → Oid) (p : X) (oid : Oid) : Type 0 where
   pub source : X
   pub holds : IsSource source
   pub path : List X
@@ -53,6 +53,6 @@ RisesByName sources =
 
 -- each mark is the name of a source that is reached, goes on backwards, and is not above the source's name at a source
 pub record AreMarks (back : Backward) (sources : List Root) (marks : Marks) : Type 0 where
-  pub sound : (p : Root) (oid : Oid) → mark_in marks p ≡ Some oid → Finds (LinksTo back) (Contains sources) oid_of p oid
+  pub sound : (p : Root) (oid : Oid) → mark_in marks p ≡ Some oid → FindsSource (LinksTo back) (Contains sources) oid_of p oid
   pub onward : (p q : Root) (oid : Oid) → mark_in marks q ≡ Some oid → LinksTo back p q → MarkedBy (mark_in marks) p oid
   pub sourced : (s : Root) → Contains sources s → MarkedBy (mark_in marks) s s.oid

@@ -15,8 +15,8 @@ abbrev pub object_of : Held → Object
 object_of held = (held.kind, held.bytes.items)
 
 -- the objects of some entries
-abbrev pub objects_of : List (Oid × Held) → List Object
-objects_of entries = map (λ e. object_of e.1) entries
+abbrev pub held_objects : List (Oid × Held) → List Object
+held_objects entries = map (λ e. object_of e.1) entries
 
 -- the name is not staged
 abbrev pub is_there : BTreeSet Oid → Oid × Held → Bool
@@ -25,8 +25,8 @@ is_there staged entry = not (contains oid_cmp staged entry.0)
 -- those that are there, and all of them
 abbrev pub holding_of : Inside → Holding
 holding_of a = record {
-  objects = objects_of (filter (is_there a.staged) a.held.entries);
-  pending = objects_of a.held.entries;
+  objects = held_objects (filter (is_there a.staged) a.held.entries);
+  pending = held_objects a.held.entries;
 }
 
 -- each is held under its name

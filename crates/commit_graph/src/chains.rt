@@ -6,7 +6,7 @@ ghost use Rattle.commit_graph.specs.Faults.{KeepsObjects};
 ghost use Rattle.commit_graph.specs.Pairs.{as_commit, oid_of};
 ghost use Rattle.commit_graph.specs.Closures.{IsClosed};
 ghost use Rattle.commit_graph.specs.Histories.{CoversHistory};
-ghost use Rattle.commit_graph.specs.Chains.{parents_in, HasParents, IsChain, IsChainFault};
+ghost use Rattle.commit_graph.specs.Chains.{linked_commits, HasParents, IsChain, IsChainFault};
 ghost use Rattle.commit_graph.specs.Chains.{fault_in};
 
 use crate::answer::Chain;
@@ -55,7 +55,7 @@ impl From<AllocError> for ChainFault {
 }
 
 fn parents_among(alloc: Global, links: &[LinkTo]) -> Result<Vec<Oid>, AllocError>
-    ensures { IfOk result (λ parents. parents.items ≡ parents_in links.now) }
+    ensures { IfOk result (λ parents. parents.items ≡ linked_commits links.now) }
 {
     links
         .iter()

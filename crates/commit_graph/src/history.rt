@@ -2,7 +2,7 @@
 ghost use Rattle.std.specs.Prelude.{◌≡◌, ◌≤◌, ◌+◌, ◌↔◌, List, length, IsTrue, IfOk};
 ghost use Rattle.std.specs.Option.{ForSome};
 ghost use Rattle.commit_graph.specs.Faults.{KeepsObjects};
-ghost use Rattle.commit_graph.specs.Histories.{InHistory, CoversHistory, HasCommit};
+ghost use Rattle.commit_graph.specs.Histories.{InHistory, CoversHistory, ListsCommit};
 
 use crate::follow::follow_parents;
 use crate::root::{commit, is_named};
@@ -61,7 +61,7 @@ impl Model for History {
 impl History {
     /// Whether the commit is one of them.
     pub fn contains(&self, oid: &Oid) -> bool
-        ensures { IsTrue result ↔ HasCommit self.now oid.now }
+        ensures { IsTrue result ↔ ListsCommit self.now oid.now }
     {
         self.found.contains(commit(*oid))
     }
@@ -75,7 +75,7 @@ pub fn history_of<O: Objects>(
     new: &Oid,
 ) -> Result<History, GetFault>
     ensures told { ForSome (O.content objects.old) (λ m. IfOk result (λ history. (old : Oid)
-        → HasCommit history old ↔ InHistory m old new.now)) }
+        → ListsCommit history old ↔ InHistory m old new.now)) }
     ensures keeps { KeepsObjects O.content O.beside O.places O.faults Some objects.old objects.new
         result }
     ensures looked { ForSome (O.content objects.old) (λ m. (commits : List Oid)

@@ -12,7 +12,7 @@ use Rattle.commit_graph.specs.Objects.{Object}
 use Rattle.fetch_wire.specs.Sections.{IsPair, pair_text}
 use Rattle.repo_entries.specs.Batches.{AreContents}
 use Rattle.entry_bodies.specs.Bodies.{held_text}
-use Rattle.entry_bodies.specs.Lists.{AreObjects, AreRemotes}
+use Rattle.entry_bodies.specs.Lists.{SpellObjects, SpellRemotes}
 use Rattle.entry_bodies.proofs.Contents.{IsHeld, one_object, one_pair}
 use Rattle.entry_bodies.proofs.Texts.{Stands, all_one, next_one}
 
@@ -41,20 +41,20 @@ objects_more bytes n objects rest more object h is e = record {
 -- where no object stands next, there are not so many
 pub no_objects : (bytes : List ℕ) (n count : ℕ) (objects : List Object) (rest : List ℕ) → HasObjects bytes n objects rest → n < count
     → ((object : Object) (more : List ℕ) → IsHeld object → rest ≡ held_text object ++ more → ⊥)
-    → (all : List Object) → AreObjects bytes count all → ⊥
+    → (all : List Object) → SpellObjects bytes count all → ⊥
 no_objects bytes n count objects rest h few none all are =
     let s = next_one IsHeld held_text one_object objects all rest (omega (arith, few, h.count, are.count)) h.each are.each (sym h.text ∙ are.text) in
     none s.next (flat_map held_text s.more) s.is s.begins
 
 -- where all were read and something is left, they are not all of the bytes
 pub objects_not_all : (bytes : List ℕ) (n : ℕ) (objects : List Object) (rest : List ℕ) → HasObjects bytes n objects rest → (rest ≡ [] → ⊥)
-    → (all : List Object) → AreObjects bytes n all → ⊥
+    → (all : List Object) → SpellObjects bytes n all → ⊥
 objects_not_all bytes n objects rest h left all are =
     left ((all_one IsHeld held_text one_object objects all rest [] (h.count ∙ sym are.count) h.each are.each
     (sym h.text ∙ are.text ∙ sym (append-nil (flat_map held_text all)))).1)
 
 -- where all were read and nothing is left, they are the bytes
-pub objects_all : (bytes : List ℕ) (n : ℕ) (objects : List Object) (rest : List ℕ) → HasObjects bytes n objects rest → rest ≡ [] → AreObjects bytes n objects
+pub objects_all : (bytes : List ℕ) (n : ℕ) (objects : List Object) (rest : List ℕ) → HasObjects bytes n objects rest → rest ≡ [] → SpellObjects bytes n objects
 objects_all bytes n objects rest h done = record {
   each = h.each;
   count = h.count;
@@ -79,14 +79,14 @@ remotes_more bytes n remotes rest more pair h is above e = record {
 }
 
 next_remote : (bytes : List ℕ) (n count : ℕ) (remotes : List (Nid × Oid)) (rest : List ℕ) → HasRemotes bytes n remotes rest → n < count
-    → (all : List (Nid × Oid)) → AreRemotes bytes count all → Stands IsPair pair_text remotes all rest
+    → (all : List (Nid × Oid)) → SpellRemotes bytes count all → Stands IsPair pair_text remotes all rest
 next_remote bytes n count remotes rest h few all are =
     next_one IsPair pair_text one_pair remotes all rest (omega (arith, few, h.count, are.count)) h.each are.each (sym h.text ∙ are.text)
 
 -- where no remote stands next, there are not so many
 pub no_remotes : (bytes : List ℕ) (n count : ℕ) (remotes : List (Nid × Oid)) (rest : List ℕ) → HasRemotes bytes n remotes rest → n < count
     → ((pair : Nid × Oid) (more : List ℕ) → IsPair pair → rest ≡ pair_text pair ++ more → ⊥)
-    → (all : List (Nid × Oid)) → AreRemotes bytes count all → ⊥
+    → (all : List (Nid × Oid)) → SpellRemotes bytes count all → ⊥
 no_remotes bytes n count remotes rest h few none all are =
     let s = next_remote bytes n count remotes rest h few all are in
     none s.next (flat_map pair_text s.more) s.is s.begins
@@ -101,7 +101,7 @@ above_front key order (a ∷ b ∷ xs) x more rising = above_front key order (b 
 -- where the remote that stands next is not above those before it, the keys do not rise
 pub not_rising : (bytes : List ℕ) (n count : ℕ) (remotes : List (Nid × Oid)) (rest more : List ℕ) (pair : Nid × Oid) → HasRemotes bytes n remotes rest → n < count
     → IsPair pair → rest ≡ pair_text pair ++ more → (IsAbove remotes pair.0 → ⊥)
-    → (all : List (Nid × Oid)) → AreRemotes bytes count all → ⊥
+    → (all : List (Nid × Oid)) → SpellRemotes bytes count all → ⊥
 not_rising bytes n count remotes rest more pair h few is e below all are =
     let s = next_remote bytes n count remotes rest h few all are in
     let same = one_pair s.next pair (flat_map pair_text s.more) more s.is is (sym s.begins ∙ e) in
@@ -110,13 +110,13 @@ not_rising bytes n count remotes rest more pair h few is e below all are =
 
 -- where all were read and something is left, they are not all of the bytes
 pub remotes_not_all : (bytes : List ℕ) (n : ℕ) (remotes : List (Nid × Oid)) (rest : List ℕ) → HasRemotes bytes n remotes rest → (rest ≡ [] → ⊥)
-    → (all : List (Nid × Oid)) → AreRemotes bytes n all → ⊥
+    → (all : List (Nid × Oid)) → SpellRemotes bytes n all → ⊥
 remotes_not_all bytes n remotes rest h left all are =
     left ((all_one IsPair pair_text one_pair remotes all rest [] (h.count ∙ sym are.count) h.each are.each
     (sym h.text ∙ are.text ∙ sym (append-nil (flat_map pair_text all)))).1)
 
 -- where all were read and nothing is left, they are the bytes
-pub remotes_all : (bytes : List ℕ) (n : ℕ) (remotes : List (Nid × Oid)) (rest : List ℕ) → HasRemotes bytes n remotes rest → rest ≡ [] → AreRemotes bytes n remotes
+pub remotes_all : (bytes : List ℕ) (n : ℕ) (remotes : List (Nid × Oid)) (rest : List ℕ) → HasRemotes bytes n remotes rest → rest ≡ [] → SpellRemotes bytes n remotes
 remotes_all bytes n remotes rest h done = record {
   each = h.each;
   rising = h.rising;

@@ -10,13 +10,13 @@ use Rattle.repo_entries.specs.Batches.{AreContents}
 use Rattle.entry_bodies.specs.Bodies.{held_text}
 
 -- so many objects within their limit, whose texts are the bytes
-pub record AreObjects (bytes : List ℕ) (n : ℕ) (objects : List Object) : Type 0 where
+pub record SpellObjects (bytes : List ℕ) (n : ℕ) (objects : List Object) : Type 0 where
   pub each : AreContents objects
   pub count : length objects ≡ n
   pub text : bytes ≡ flat_map held_text objects
 
 -- so many remotes, their keys strictly rising, whose texts are the bytes
-pub record AreRemotes (bytes : List ℕ) (n : ℕ) (remotes : List (Nid × Oid)) : Type 0 where
+pub record SpellRemotes (bytes : List ℕ) (n : ℕ) (remotes : List (Nid × Oid)) : Type 0 where
   pub each : AllByRecursion IsPair remotes
   pub rising : IsRising remotes
   pub count : length remotes ≡ n

@@ -3,7 +3,7 @@ ghost use Rattle.std.specs.Prelude.{◌≡◌, ◌∷◌, ◌++◌, ◌≤◌, �
 ghost use Rattle.commit_graph.specs.Objects.{Object};
 ghost use Rattle.rad_base.specs.declared.names.Nid.{Nid};
 ghost use Rattle.rad_base.specs.declared.names.Oid.{Oid};
-ghost use Rattle.entry_bodies.specs.Lists.{AreObjects, AreRemotes};
+ghost use Rattle.entry_bodies.specs.Lists.{SpellObjects, SpellRemotes};
 
 use crate::fronts::{object_front, pair_front};
 use rad_base::{Bytes, NoMemory, Remotes};
@@ -12,9 +12,9 @@ use std::alloc::Global;
 
 /// So many objects, which are all of the bytes. None where the bytes are no such.
 pub(crate) fn objects_in(alloc: Global, bytes: &[u8], count: u32) -> Result<Option<Batch>, NoMemory>
-    ensures found { IfOk result (λ found. IfSome found (AreObjects bytes.now count)) }
+    ensures found { IfOk result (λ found. IfSome found (SpellObjects bytes.now count)) }
     ensures none { IfOk result (λ found. IfNone found ((objects : List Object)
-        → AreObjects bytes.now count objects → ⊥)) }
+        → SpellObjects bytes.now count objects → ⊥)) }
 {
     let mut batch = Batch::new(alloc);
     let mut rest = bytes;
@@ -38,9 +38,9 @@ pub(crate) fn remotes_in(
     bytes: &[u8],
     count: u16,
 ) -> Result<Option<Remotes>, NoMemory>
-    ensures found { IfOk result (λ found. IfSome found (AreRemotes bytes.now count)) }
+    ensures found { IfOk result (λ found. IfSome found (SpellRemotes bytes.now count)) }
     ensures none { IfOk result (λ found. IfNone found ((remotes : List (Nid × Oid))
-        → AreRemotes bytes.now count remotes → ⊥)) }
+        → SpellRemotes bytes.now count remotes → ⊥)) }
 {
     let mut remotes = Remotes::new(alloc);
     let mut rest = bytes;

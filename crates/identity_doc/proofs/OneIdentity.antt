@@ -9,7 +9,7 @@ use Rattle.git_object.specs.Links.{links}
 use Rattle.keyring.specs.Contents.{Contents}
 use Rattle.commit_graph.specs.Objects.{ObjectMap}
 use Rattle.commit_graph.specs.Walks.{Walk}
-use Rattle.commit_graph.specs.Chains.{HasParents, IsChain, IsLine, IsOnlyParent, parents_in}
+use Rattle.commit_graph.specs.Chains.{HasParents, IsChain, IsLine, IsOnlyParent, linked_commits}
 use Rattle.commit_graph.proofs.OneAnswer.{one_chain}
 use Rattle.tree_entry.proofs.OneEntry.{one_content, one_embedded}
 use Rattle.identity_doc.specs.declared.doc.Doc.{Doc}

@@ -4,7 +4,7 @@ use Rattle.std.specs.Prelude.{Result, Ok, Err, Contains, IsTrue}
 use Rattle.std.specs.Option.{ForSome, option_or}
 use Rattle.rad_base.specs.Faults.{Rose}
 use Rattle.std.specs.declared.cmp.Ordering.TheVariants.{Less}
-use Rattle.rad_base.specs.Order.{oid_cmp}
+use Rattle.rad_base.specs.Order.{RisesBy, oid_cmp}
 use Rattle.rad_base.specs.declared.names.Nid.{Nid}
 use Rattle.rad_base.specs.declared.names.Oid.{Oid}
 use Rattle.rad_base.specs.declared.names.Rid.{Rid}
@@ -98,7 +98,7 @@ StopsIn made rid caller end old new entries why =
 
 -- what each call leaves: the constants, which loan it is, what it has of the other repositories for which it stands; the
 -- count never falls
-pub record Leaves {K : Type 0} (constants : K → Constants) (loan faults : K → ℕ) (held : K → Rid → Held)
+pub record LeavesOthers {K : Type 0} (constants : K → Constants) (loan faults : K → ℕ) (held : K → Rid → Held)
     (rid : Rid) (old new : K) : Type 0 where
   pub constants_stay : constants new ≡ constants old
   pub loan_stays : loan new ≡ loan old
@@ -161,7 +161,5 @@ abbrev pub IsNamedIn : Held → Oid → Type 0
 IsNamedIn held oid = (held.state.id ≡ Some oid) ⊎ ((node : Nid) × Contains held.state.remotes (node, oid))
 
 -- each name is below the next
-abbrev pub AreRising : List Oid → Type 0
-AreRising [] = Unit {0}
-AreRising (a ∷ []) = Unit {0}
-AreRising (a ∷ b ∷ rest) = (oid_cmp a b ≡ Less) × AreRising (b ∷ rest)
+abbrev pub AreRisingNames : List Oid → Type 0
+AreRisingNames names = RisesBy (λ oid. oid) oid_cmp names

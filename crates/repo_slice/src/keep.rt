@@ -7,8 +7,8 @@ ghost use Rattle.rad_base.specs.declared.names.Rid.{Rid};
 ghost use Rattle.repo_entries.specs.Batches.{IsBatch};
 ghost use Rattle.repo_entries.specs.Items.{Item, put};
 ghost use Rattle.repo_slice.specs.Heads.{IsHeadOf};
-ghost use Rattle.repo_slice.specs.Keeps.{AreRising, Constants, HadRoom, HasSlice, Held, HeldBehind};
-ghost use Rattle.repo_slice.specs.Keeps.{IsKeepCause, IsNamedIn, IsNoChange, IsVerdictOn, Leaves};
+ghost use Rattle.repo_slice.specs.Keeps.{AreRisingNames, Constants, HadRoom, HasSlice, Held, HeldBehind};
+ghost use Rattle.repo_slice.specs.Keeps.{IsKeepCause, IsNamedIn, IsNoChange, IsVerdictOn, LeavesOthers};
 ghost use Rattle.repo_slice.specs.Keeps.{Makes, StopsAtVerdict, StopsIn, item_of, put_told};
 ghost use Rattle.repo_slice.specs.Wanted.{AreAmong, IsWantedList};
 
@@ -42,10 +42,10 @@ pub trait Keep {
     /// The names of the identity and of the remotes' commits, rising, each once.
     fn have(&mut self, rid: &Rid) -> Result<Oids, NoMemory>
         requires { IsTrue ((constants self.old).stands rid.now) }
-        ensures leaves { Leaves constants loan faults held rid.now self.old self.new }
+        ensures leaves { LeavesOthers constants loan faults held rid.now self.old self.new }
         ensures nothing { Makes made self.old self.new [] }
         ensures slice { held self.new rid.now ≡ held self.old rid.now }
-        ensures rising { IfOk result AreRising }
+        ensures rising { IfOk result AreRisingNames }
         ensures names { IfOk result (λ oids. (oid : Oid)
             → Contains oids oid ↔ IsNamedIn (held self.old rid.now) oid) };
 
@@ -58,7 +58,7 @@ pub trait Keep {
         stage: Stage,
     ) -> Result<Nids, KeepFault>
         requires { IsTrue ((constants self.old).stands rid.now) }
-        ensures leaves { Leaves constants loan faults held rid.now self.old self.new }
+        ensures leaves { LeavesOthers constants loan faults held rid.now self.old self.new }
         ensures nothing { OnOk result (Makes made self.old self.new []) }
         ensures stops { IfErr result (StopsIn made rid.now (constants self.old).caller
             (end self.new) self.old self.new []) }
@@ -74,7 +74,7 @@ pub trait Keep {
     fn put(&mut self, rid: &Rid, batch: &Batch) -> Result<(), KeepFault>
         requires stands { IsTrue ((constants self.old).stands rid.now) }
         requires limits { IsBatch batch.now }
-        ensures leaves { Leaves constants loan faults held rid.now self.old self.new }
+        ensures leaves { LeavesOthers constants loan faults held rid.now self.old self.new }
         ensures entered { OnOk result (Makes made self.old self.new
             (put rid.now batch.now (constants self.old).caller ∷ [])) }
         ensures stops { IfErr result (StopsIn made rid.now (constants self.old).caller
@@ -95,7 +95,7 @@ pub trait Keep {
         scope: &Scope,
     ) -> Result<Result<Judged, Whole>, KeepFault>
         requires { IsTrue ((constants self.old).stands rid.now) }
-        ensures leaves { Leaves constants loan faults held rid.now self.old self.new }
+        ensures leaves { LeavesOthers constants loan faults held rid.now self.old self.new }
         ensures verdict { IfOk result (IsVerdictOn (constants self.old) (held self.old rid.now)
             offer.now scope.now) }
         ensures entered { IfOk result (λ verdict. Makes made self.old self.new
@@ -114,7 +114,7 @@ pub trait Keep {
     fn head(&mut self, rid: &Rid) -> Result<Head, KeepFault>
         requires stands { IsTrue ((constants self.old).stands rid.now) }
         requires identity { IsSome (held self.old rid.now).state.id }
-        ensures leaves { Leaves constants loan faults held rid.now self.old self.new }
+        ensures leaves { LeavesOthers constants loan faults held rid.now self.old self.new }
         ensures nothing { OnOk result (Makes made self.old self.new []) }
         ensures stops { IfErr result (StopsIn made rid.now (constants self.old).caller
             (end self.new) self.old self.new []) }

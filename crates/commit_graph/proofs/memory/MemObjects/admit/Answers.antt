@@ -1,6 +1,6 @@
 use Rattle.std.proofs.Common.{sym, ap, length, ◌∙◌}
 use Rattle.commit_graph.specs.InMemory.{Holding}
-use Rattle.commit_graph.specs.Memory.{objects_of}
+use Rattle.commit_graph.specs.Memory.{held_objects}
 use Rattle.commit_graph.proofs.Holdings.{all_there, none_in}
 use Rattle.commit_graph.proofs.memory.MemObjects.admit.Goals as goal
 
@@ -13,5 +13,5 @@ invariant_of-self c = record {
 
 pub returns-clause-there : goal.returns-clause-there
 returns-clause-there c =
-    ap objects_of (all_there c.clear.new.self c.self.inside.held.entries (none_in c.clear.new.self c.clear.ensures.empty))
+    ap held_objects (all_there c.clear.new.self c.self.inside.held.entries (none_in c.clear.new.self c.clear.ensures.empty))
     ∙ ap (λ (s : Holding). s.pending) c.self.view_is

@@ -4,7 +4,7 @@ use Rattle.std.specs.BTreeMap.{get}
 use Rattle.rad_base.specs.Order.{oid_cmp}
 use Rattle.commit_graph.specs.declared.memory.Held.{Held}
 use Rattle.commit_graph.specs.InMemory.{Holding, objects_in}
-use Rattle.commit_graph.specs.Memory.{objects_of}
+use Rattle.commit_graph.specs.Memory.{held_objects}
 use Rattle.commit_graph.proofs.Holdings.{absent_from, named_insert, put_again, same_there, stage_there, staged_pending}
 use Rattle.commit_graph.proofs.memory.MemObjects.stage.Goals as goal
 
@@ -30,7 +30,7 @@ pub returns-in-Ok-clause-there : goal.returns-in-Ok-clause-there
 returns-in-Ok-clause-there c =
     let held : Held = record { kind = c.args.kind; bytes = c.in_ok-bytes.bytes } in
     let absent : get oid_cmp c.self.inside.held c.args.oid ≡ None = absent_from _ (sym c.contains_key.ensures ∙ c.if-contains_key.false) in
-    ap objects_of
+    ap held_objects
     (stage_there c.self.inside.held c.insert-2.new.self c.self.inside.staged c.insert.new.self c.args.oid held absent
     c.in-Ok.ensures.entries c.in_ok-insert.ensures.updates.0)
     ∙ ap (λ (s : Holding). s.objects) c.self.view_is
@@ -44,7 +44,7 @@ returns-in-Ok-clause-pending c =
     (rw c.in-Ok.ensures.entries (named_insert c.self.inside.held.entries c.args.oid held c.self.invariant.named is))
     (absent_from (get oid_cmp c.self.inside.held c.args.oid) (sym c.contains_key.ensures ∙ c.if-contains_key.false))
     c.in-Ok.ensures.updates.0
-    ∙ ap (λ (l : List ℕ). objects_in (objects_of c.self.inside.held.entries ++ (c.args.kind, l) ∷ [])) bytes
+    ∙ ap (λ (l : List ℕ). objects_in (held_objects c.self.inside.held.entries ++ (c.args.kind, l) ∷ [])) bytes
     ∙ ap (λ (s : Holding). objects_in (s.pending ++ (c.args.kind, c.args.bytes.now) ∷ [])) c.self.view_is
 
 pub invariant_of-self-in-Err : goal.invariant_of-self-in-Err
@@ -62,7 +62,7 @@ pub returns-clause-there : goal.returns-clause-there
 returns-clause-there c =
     let absent : get oid_cmp c.self.inside.held c.args.oid ≡ None = absent_from _ (sym c.contains_key.ensures ∙ c.if-contains_key.false) in
     rw c.in-Err.ensures.err
-    (ap objects_of
+    (ap held_objects
     (same_there c.self.inside.staged c.insert.new.self c.remove.new.self c.args.oid c.self.inside.held absent
     c.in_ok-insert.ensures.updates.0 c.remove.ensures.updates.0)
     ∙ ap (λ (s : Holding). s.objects) c.self.view_is)

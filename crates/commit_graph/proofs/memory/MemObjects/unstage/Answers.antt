@@ -1,7 +1,7 @@
 use Rattle.std.proofs.Common.{◌≡◌, ◌<◌, length, sym, ap, ◌∙◌, arith}
 use Rattle.std.proofs.lemmas.Bool.{false≢true}
 use Rattle.std.proofs.lemmas.List.{nil_from_length}
-use Rattle.commit_graph.specs.Memory.{objects_of}
+use Rattle.commit_graph.specs.Memory.{held_objects}
 use Rattle.commit_graph.proofs.Holdings.{all_there, named_removed, none_in, unstage_there}
 use Rattle.commit_graph.proofs.memory.MemObjects.unstage.Goals as goal
 
@@ -15,7 +15,7 @@ loop-oid-preserved-in-Some c =
         named = named_removed held.entries c.remove.new.self.entries _ c.remove.ensures.entries c.loop-oid.invariant.holds.named;
         counted = c.loop-oid.invariant.holds.counted ∙ sym (ap length there);
       };
-      there = ap objects_of there ∙ c.loop-oid.invariant.there;
+      there = ap held_objects there ∙ c.loop-oid.invariant.there;
     }
 
 pub loop-oid-preserved : goal.loop-oid-preserved
@@ -28,7 +28,7 @@ loop-oid-preserved c =
         named = named_removed held.entries c.remove.new.self.entries _ c.remove.ensures.entries c.loop-oid.invariant.holds.named;
         counted = c.loop-oid.invariant.holds.counted ∙ sym (ap length there);
       };
-      there = ap objects_of there ∙ c.loop-oid.invariant.there;
+      there = ap held_objects there ∙ c.loop-oid.invariant.there;
     }
 
 pub returns-clause-pending : goal.returns-clause-pending
@@ -36,5 +36,5 @@ returns-clause-pending c =
     let old = c.loop-oid.self-inside.staged in
     let some : 0 < length old.keys → ⊥ = λ h. false≢true (c.in_default.ensures.variant.1 h) in
     let none : length old.keys ≡ 0 = omega (arith, some) in
-    sym (ap objects_of (all_there c.pop_first.new.self c.loop-oid.self-inside.held.entries
+    sym (ap held_objects (all_there c.pop_first.new.self c.loop-oid.self-inside.held.entries
     (none_in c.pop_first.new.self (c.in_default.ensures.unchanged ∙ nil_from_length old.keys none))))

@@ -1,0 +1,5 @@
+pub mod Advancing
+pub mod Cores
+pub mod Durable
+pub mod Histories
+pub mod Replays

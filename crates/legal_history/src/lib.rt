@@ -1,0 +1,9 @@
+//! Legal histories of a store: what a list of entries makes of its repositories, which lists are
+//! legal, and what may happen to a history and to the entry that is in doubt.
+#![tactic(auto)]
+
+mod laws;
+
+pub use laws::{
+    durable_parts_are_legal, events_keep_histories_legal, remotes_only_advance, slices_are_good,
+};
