@@ -1,11 +1,13 @@
 -- What a journal holds, and what its calls keep.
-use Rattle.std.specs.Prelude.{Bool, ◌≡◌, ◌⊎◌, ℕ, ◌≤◌, List, true, false, Option, None, Some}
+use Rattle.std.specs.Prelude.{Bool, ◌≡◌, ◌⊎◌, ℕ, ◌≤◌, List, [], ◌∷◌, ◌++◌, true, false}
+use Rattle.std.specs.Prelude.{Option, None, Some}
 use Rattle.std.specs.Option.{is_some}
 use Rattle.std.specs.Io.KnownBytes.{Keeps}
 use Rattle.rad_base.specs.Faults.{Rose}
 use Rattle.rad_outside.specs.Disks.{Within}
+use Rattle.ref_journal.specs.Frames.{IsBody, frame_of, gate_behind}
 use Rattle.ref_journal.specs.Images.{IsLeft}
-use Rattle.ref_journal.specs.Moments.{LeavesOnly, Passes}
+use Rattle.ref_journal.specs.Moments.{HasBodiesOrOneMore, LeavesOnly, Passes}
 use Rattle.ref_journal.specs.declared.faults.AppendFault.{AppendFault}
 use Rattle.ref_journal.specs.declared.faults.AppendFault.TheVariants.{Full, DiskFault}
 use Rattle.ref_journal.specs.declared.journal.Journal.{Journal}
@@ -31,6 +33,21 @@ abbrev pub Holds : {D : Type 0} → (D → Option (List ℕ)) → (D → List �
 Holds reads images journal bodies doubt =
     Stores (reads journal.disk) (images journal.disk) journal.end journal.in_doubt bodies doubt
 
+-- whatever bodies the old journal holds, with any doubt, the new one holds these and one more, with
+-- none in doubt
+abbrev pub HoldsOneMore : {D : Type 0} → (D → Option (List ℕ)) → (D → List ℕ → Type 0)
+    → Journal D → Journal D → List ℕ → Type 0
+HoldsOneMore reads images old new body =
+    (bodies : List (List ℕ)) (doubt : Option (List ℕ)) → Holds reads images old bodies doubt
+    → Holds reads images new (bodies ++ body ∷ []) None
+
+-- the same of the body that a frame is of, where the old journal has none in doubt
+abbrev pub HoldsFramedBody : {D : Type 0} → (D → Option (List ℕ)) → (D → List ℕ → Type 0)
+    → Journal D → Journal D → List ℕ → Type 0
+HoldsFramedBody reads images old new frame =
+    (bodies : List (List ℕ)) (body : List ℕ) → frame ≡ frame_of body → IsBody body
+    → Holds reads images old bodies None → Holds reads images new (bodies ++ body ∷ []) None
+
 -- What an append that was refused leaves of a journal of these bodies with that doubt. After a disk
 -- fault the body is in doubt, or a mend that came first ended the doubt, or the doubt is what it
 -- was.
@@ -41,6 +58,21 @@ LeavesDoubt reads images bodies doubt body new (DiskFault true) =
     Holds reads images new bodies (Some body)
 LeavesDoubt reads images bodies doubt body new (DiskFault false) =
     Holds reads images new bodies None ⊎ Holds reads images new bodies doubt
+
+-- whatever bodies the old journal holds, with any doubt, an append of this one that was refused
+-- leaves these, with the doubt that the fault tells
+abbrev pub LeavesBodies : {D : Type 0} → (D → Option (List ℕ)) → (D → List ℕ → Type 0)
+    → Journal D → Journal D → List ℕ → AppendFault → Type 0
+LeavesBodies reads images old new body fault =
+    (bodies : List (List ℕ)) (doubt : Option (List ℕ)) → Holds reads images old bodies doubt
+    → LeavesDoubt reads images bodies doubt body new fault
+
+-- the same of the body that a frame is of, where the old journal has none in doubt
+abbrev pub LeavesFramedBody : {D : Type 0} → (D → Option (List ℕ)) → (D → List ℕ → Type 0)
+    → Journal D → Journal D → List ℕ → AppendFault → Type 0
+LeavesFramedBody reads images old new frame fault =
+    (bodies : List (List ℕ)) (body : List ℕ) → frame ≡ frame_of body → IsBody body
+    → Holds reads images old bodies None → LeavesDoubt reads images bodies None body new fault
 
 -- a disk fault comes only where the count rose
 abbrev pub HasAppendCause : ℕ → ℕ → AppendFault → Type 0
@@ -63,3 +95,30 @@ abbrev pub LeavesOnlyBetween : {D : Type 0} → (D → ℕ) → (D → ℕ → L
     → (List ℕ → Type 0) → Type 0
 LeavesOnlyBetween moment since old new P =
     LeavesOnly (moment old) (moment new) (since old) (since new) P
+
+-- whatever bodies the old journal holds, with any doubt, a crash at any moment between the two
+-- leaves an image that has P of these
+abbrev pub CrashLeaves : {D : Type 0} → (D → Option (List ℕ)) → (D → List ℕ → Type 0) → (D → ℕ)
+    → (D → ℕ → List ℕ → Type 0) → Journal D → Journal D
+    → (List (List ℕ) → Option (List ℕ) → List ℕ → Type 0) → Type 0
+CrashLeaves reads images moment since old new P =
+    (bodies : List (List ℕ)) (doubt : Option (List ℕ)) → Holds reads images old bodies doubt
+    → LeavesOnlyBetween moment since old.disk new.disk (P bodies doubt)
+
+-- whatever bodies the old journal holds, with none in doubt, a crash at any moment between the two
+-- leaves them with the body that a frame is of, or without it
+abbrev pub CrashLeavesFramedBody : {D : Type 0} → (D → Option (List ℕ)) → (D → List ℕ → Type 0)
+    → (D → ℕ) → (D → ℕ → List ℕ → Type 0) → Journal D → Journal D → List ℕ → Type 0
+CrashLeavesFramedBody reads images moment since old new frame =
+    (bodies : List (List ℕ)) (body : List ℕ) → frame ≡ frame_of body → IsBody body
+    → Holds reads images old bodies None
+    → LeavesOnlyBetween moment since old.disk new.disk (HasBodiesOrOneMore bodies body)
+
+-- where the gate of one of the journal's bodies stands at this place, that body is read, and the
+-- place of the next gate is answered
+abbrev pub ReadsBodyAt : {D : Type 0} → (D → Option (List ℕ)) → (D → List ℕ → Type 0) → Journal D
+    → ℕ → List ℕ → Option ℕ → Type 0
+ReadsBodyAt reads images journal place read next =
+    (before after : List (List ℕ)) (body : List ℕ) (doubt : Option (List ℕ))
+    → Holds reads images journal (before ++ body ∷ after) doubt → place ≡ gate_behind before
+    → (next ≡ Some (gate_behind (before ++ body ∷ []))) × (read ≡ body)

@@ -1,16 +1,15 @@
 // The journal with the disk that it holds.
-ghost use Rattle.std.specs.Prelude.{◌≡◌, ◌⊎◌, ◌↔◌, ◌≤◌, ◌<◌, ◌^◌, ◌+◌, ◌++◌, ◌∷◌, []};
-ghost use Rattle.std.specs.Prelude.{if◌then◌else◌, false, length, List, ℕ, Option, None, Some, Err};
+ghost use Rattle.std.specs.Prelude.{◌≡◌, ◌↔◌, ◌≤◌, ◌<◌, ◌^◌, ◌+◌, ◌++◌, []};
+ghost use Rattle.std.specs.Prelude.{if◌then◌else◌, false, length, List, ℕ, Option, None, Err};
 ghost use Rattle.std.specs.Prelude.{is_ok, IfErr, IfNone, IfOk, IfSome};
 ghost use Rattle.std.specs.Prelude.{IsErrOf, IsNone, IsOk, OnErr, OnOk};
 ghost use Rattle.rad_outside.specs.Causes.{HasCause};
-ghost use Rattle.ref_journal.specs.Frames.{IsBody, frame_of, header, records};
+ghost use Rattle.ref_journal.specs.Frames.{header, records};
 ghost use Rattle.ref_journal.specs.Gates.{StandsAt};
 ghost use Rattle.ref_journal.specs.Makes.{HasMakeCause, HasNoMark, IsMade, IsUnmadeOrEmpty};
 ghost use Rattle.ref_journal.specs.Makes.{made_disk};
 ghost use Rattle.rad_base.specs.Faults.{Rose};
-ghost use Rattle.ref_journal.specs.Frames.{gate_behind};
-ghost use Rattle.ref_journal.specs.Moments.{HasBodiesOrOneMore, MayHave};
+ghost use Rattle.ref_journal.specs.Moments.{MayHave, MayHaveOrOneMore};
 
 use crate::make::{is_made, lay_header};
 use crate::record::{read_body, write_durably};
@@ -36,8 +35,10 @@ pub struct Journal<D> {
 }
 
 impl<D: Disk> Journal<D> {
-    ghost use Rattle.ref_journal.specs.Holds.{HasAppendCause, Holds, LeavesDoubt};
-    ghost use Rattle.ref_journal.specs.Holds.{LeavesOnlyBetween, OnlyReads, Tells};
+    ghost use Rattle.ref_journal.specs.Holds.{CrashLeaves, CrashLeavesFramedBody, HasAppendCause};
+    ghost use Rattle.ref_journal.specs.Holds.{Holds, HoldsFramedBody, HoldsOneMore, LeavesBodies};
+    ghost use Rattle.ref_journal.specs.Holds.{LeavesFramedBody, LeavesOnlyBetween, OnlyReads};
+    ghost use Rattle.ref_journal.specs.Holds.{ReadsBodyAt, Tells};
     ghost use Rattle.ref_journal.specs.Opens.{HasOpenCause, IsOpened, opened_disk};
 
     /// Opens the journal that stands on a disk, after a sync. It writes nothing, and takes no
@@ -107,16 +108,12 @@ impl<D: Disk> Journal<D> {
         ensures place { IfOk result (λ place. place ≡ self.old.end + 9) }
         ensures end { self.new.end
             ≡ (if is_ok result then self.old.end + 9 + length parcel.now else self.old.end) }
-        ensures holds { OnOk result ((bodies : List (List ℕ)) (doubt : Option (List ℕ))
-            → Holds D.reads_as D.images self.old bodies doubt
-            → Holds D.reads_as D.images self.new (bodies ++ parcel.now ∷ []) None) }
-        ensures left { IfErr result (λ fault. (bodies : List (List ℕ)) (doubt : Option (List ℕ))
-            → Holds D.reads_as D.images self.old bodies doubt
-            → LeavesDoubt D.reads_as D.images bodies doubt parcel.now self.new fault) }
-        ensures moments { (bodies : List (List ℕ)) (doubt : Option (List ℕ))
-            → Holds D.reads_as D.images self.old bodies doubt
-            → LeavesOnlyBetween D.moment D.images_since self.old.disk self.new.disk
-            (λ image. MayHave bodies doubt image ⊎ HasBodiesOrOneMore bodies parcel.now image) }
+        ensures holds { OnOk result
+            (HoldsOneMore D.reads_as D.images self.old self.new parcel.now) }
+        ensures left { IfErr result
+            (LeavesBodies D.reads_as D.images self.old self.new parcel.now) }
+        ensures moments { CrashLeaves D.reads_as D.images D.moment D.images_since
+            self.old self.new (MayHaveOrOneMore parcel.now) }
     {
         let frame = parcel.framed();
         let size = frame.len() as u64;
@@ -142,10 +139,8 @@ impl<D: Disk> Journal<D> {
         ensures kept { OnErr result ((bodies : List (List ℕ)) (doubt : Option (List ℕ))
             → Holds D.reads_as D.images self.old bodies doubt
             → Holds D.reads_as D.images self.new bodies doubt) }
-        ensures moments { (bodies : List (List ℕ)) (doubt : Option (List ℕ))
-            → Holds D.reads_as D.images self.old bodies doubt
-            → LeavesOnlyBetween D.moment D.images_since self.old.disk self.new.disk
-            (MayHave bodies doubt) }
+        ensures moments { CrashLeaves D.reads_as D.images D.moment D.images_since
+            self.old self.new MayHave }
     {
         if self.in_doubt {
             write_durably(&mut self.disk, self.end, &[0])?;
@@ -164,19 +159,12 @@ impl<D: Disk> Journal<D> {
         ensures end { self.new.end
             ≡ (if is_ok result then self.old.end + length frame.now else self.old.end) }
         ensures not_full { IsErrOf result AppendFault.Full → ⊥ }
-        ensures holds { OnOk result ((bodies : List (List ℕ)) (body : List ℕ)
-            → frame.now ≡ frame_of body → IsBody body
-            → Holds D.reads_as D.images self.old bodies None
-            → Holds D.reads_as D.images self.new (bodies ++ body ∷ []) None) }
-        ensures left { IfErr result (λ fault. (bodies : List (List ℕ)) (body : List ℕ)
-            → frame.now ≡ frame_of body → IsBody body
-            → Holds D.reads_as D.images self.old bodies None
-            → LeavesDoubt D.reads_as D.images bodies None body self.new fault) }
-        ensures moments { (bodies : List (List ℕ)) (body : List ℕ)
-            → frame.now ≡ frame_of body → IsBody body
-            → Holds D.reads_as D.images self.old bodies None
-            → LeavesOnlyBetween D.moment D.images_since self.old.disk self.new.disk
-            (HasBodiesOrOneMore bodies body) }
+        ensures holds { OnOk result
+            (HoldsFramedBody D.reads_as D.images self.old self.new frame.now) }
+        ensures left { IfErr result
+            (LeavesFramedBody D.reads_as D.images self.old self.new frame.now) }
+        ensures moments { CrashLeavesFramedBody D.reads_as D.images D.moment D.images_since
+            self.old self.new frame.now }
     {
         write_durably(&mut self.disk, self.end + 1, frame)?;
         match write_durably(&mut self.disk, self.end, &[1]) {
@@ -209,11 +197,8 @@ impl<D: Disk> Journal<D> {
         ensures keeps { (bodies : List (List ℕ)) (doubt : Option (List ℕ))
             → Holds D.reads_as D.images self.old bodies doubt
             → Holds D.reads_as D.images self.new bodies doubt }
-        ensures body { IfOk result (λ next. (before after : List (List ℕ)) (body : List ℕ)
-            (doubt : Option (List ℕ))
-            → Holds D.reads_as D.images self.old (before ++ body ∷ after) doubt
-            → place ≡ gate_behind before
-            → (next ≡ Some (gate_behind (before ++ body ∷ []))) × (into.new.items ≡ body)) }
+        ensures body { IfOk result
+            (ReadsBodyAt D.reads_as D.images self.old place into.new.items) }
     {
         into.clear();
         let left = self.end.saturating_sub(place);
