@@ -1,5 +1,6 @@
 -- What lies beyond the names that are known to be closed.
-use Rattle.std.specs.Prelude.{◌≡◌, ℕ, false, ◌⊎◌, ◌↔◌, List, [], ◌∷◌, length, Contains, Option, Some, None, IsTrue, Result, Ok, Err}
+use Rattle.std.specs.Prelude.{◌≡◌, ℕ, ◌+◌, ◌*◌, ◌≤◌, false, ◌⊎◌, ◌↔◌, List, [], ◌∷◌, length}
+use Rattle.std.specs.Prelude.{sum_by, Contains, Option, Some, None, IsTrue, Result, Ok, Err}
 use Rattle.std.specs.BTreeSet.{BTreeSet, contains}
 use Rattle.rad_base.specs.declared.names.Oid.{Oid}
 use Rattle.rad_base.specs.Order.{oid_cmp}
@@ -71,6 +72,21 @@ links_in (Some object) = links object.0 object.1
 -- how many links the object of a name has
 abbrev pub link_count : ObjectMap → Oid → ℕ
 link_count objects oid = length (links_in (objects oid))
+
+-- a walk takes at most as many steps as the names that are so reached and not known, the links of
+-- those that are so reached as fit, and twice the roots
+abbrev pub HasCostBeyond : ObjectMap → BTreeSet Oid → List Root → ℕ → ℕ → Type 0
+HasCostBeyond objects known roots before now =
+    (names fit : List Oid) → CoversBeyond objects known roots names
+    → CoversFitBeyond objects known roots fit
+    → now ≤ before + length names + sum_by (link_count objects) fit + 2 * length roots
+
+-- a walk takes at most as many steps as the names that are so reached and not known, and the pairs
+-- to which it leads: it tests each pair once
+abbrev pub TestsPairsOnce : ObjectMap → BTreeSet Oid → List Root → ℕ → ℕ → Type 0
+TestsPairsOnce objects known roots before now =
+    (names : List Oid) (pairs : List Root) → CoversBeyond objects known roots names
+    → CoversPairsBeyond objects known roots pairs → now ≤ before + length names + length pairs
 
 -- the names that are known once all is closed: those before and those that are reached over none of them
 abbrev pub GrowsBeyond : ObjectMap → BTreeSet Oid → List Root → BTreeSet Oid → Closure → Type 0

@@ -1,13 +1,11 @@
 // A closure that does not walk again what is known to be closed.
-ghost use Rattle.std.specs.Prelude.{◌≡◌, ◌≤◌, ◌+◌, ◌*◌, ◌↔◌, ◌⊎◌, List, length, sum_by};
-ghost use Rattle.std.specs.Prelude.{Contains, IsTrue, IfOk, IfErr, OnOk};
+ghost use Rattle.std.specs.Prelude.{◌≤◌, ◌+◌, ◌↔◌, Contains, IsTrue, IfOk, IfErr, OnOk};
 ghost use Rattle.std.specs.Option.{ForSome};
 ghost use Rattle.commit_graph.specs.Faults.{IsAskedFor, KeepsObjects};
 ghost use Rattle.commit_graph.specs.Walks.{Reached};
 ghost use Rattle.commit_graph.specs.Closures.{IsClosure};
-ghost use Rattle.commit_graph.specs.Beyond.{AllClosed, IsLinkBeyond, CoversBeyond, CoversFitBeyond};
-ghost use Rattle.commit_graph.specs.Beyond.{CoversPairsBeyond};
-ghost use Rattle.commit_graph.specs.Beyond.{link_count, GrowsBeyond, Leaves};
+ghost use Rattle.commit_graph.specs.Beyond.{AllClosed, IsLinkBeyond, GrowsBeyond, HasCostBeyond};
+ghost use Rattle.commit_graph.specs.Beyond.{Leaves, TestsPairsOnce};
 ghost use Rattle.commit_graph.specs.Facts.{IsAccepted, IsTested};
 
 use crate::answer::Closure;
@@ -87,13 +85,10 @@ fn search<O: Objects, L: Ledger>(
         (λ m. IfOk result (λ s. IsClosure m roots.now s.answer)) }
     ensures reach { ForSome (O.content objects.old) (λ m. IfOk result (λ s. (pair : Root)
         → Contains s.pairs pair ↔ Reached (IsLinkBeyond m known.now) roots.now pair)) }
-    ensures cost { ForSome (O.content objects.old) (λ m. (names fit : List Oid)
-        → CoversBeyond m known.now roots.now names → CoversFitBeyond m known.now roots.now fit
-        → steps.new ≤ steps.old + length names + sum_by (link_count m) fit + 2 * length roots.now) }
-    ensures once { ForSome (O.content objects.old) (λ m. OnOk result ((names : List Oid)
-        (pairs : List Root) → CoversBeyond m known.now roots.now names
-        → CoversPairsBeyond m known.now roots.now pairs
-        → steps.new ≤ steps.old + length names + length pairs)) }
+    ensures cost { ForSome (O.content objects.old)
+        (λ m. HasCostBeyond m known.now roots.now steps.old steps.new) }
+    ensures once { ForSome (O.content objects.old)
+        (λ m. OnOk result (TestsPairsOnce m known.now roots.now steps.old steps.new)) }
     ensures keeps { KeepsObjects O.content O.beside O.places O.faults Some objects.old objects.new
         result }
     ensures looked { O.looks objects.new + steps.old ≤ O.looks objects.old + steps.new }
@@ -146,13 +141,10 @@ pub fn closure_beyond<O: Objects, L: Ledger>(
         (λ m. IfOk result (GrowsBeyond m known.old roots.now known.new)) }
     ensures left { Leaves result known.old known.new }
     ensures closed { ForSome (O.content objects.old) (λ m. AllClosed m known.new) }
-    ensures cost { ForSome (O.content objects.old) (λ m. (names fit : List Oid)
-        → CoversBeyond m known.old roots.now names → CoversFitBeyond m known.old roots.now fit
-        → steps.new ≤ steps.old + length names + sum_by (link_count m) fit + 2 * length roots.now) }
-    ensures once { ForSome (O.content objects.old) (λ m. OnOk result ((names : List Oid)
-        (pairs : List Root) → CoversBeyond m known.old roots.now names
-        → CoversPairsBeyond m known.old roots.now pairs
-        → steps.new ≤ steps.old + length names + length pairs)) }
+    ensures cost { ForSome (O.content objects.old)
+        (λ m. HasCostBeyond m known.old roots.now steps.old steps.new) }
+    ensures once { ForSome (O.content objects.old)
+        (λ m. OnOk result (TestsPairsOnce m known.old roots.now steps.old steps.new)) }
     ensures keeps { KeepsObjects O.content O.beside O.places O.faults Some objects.old objects.new
         result }
     ensures looked { O.looks objects.new + steps.old ≤ O.looks objects.old + steps.new }
