@@ -5,7 +5,8 @@ ghost use Rattle.rad_base.specs.declared.names.Sig.{Sig};
 ghost use Rattle.rad_base.specs.Sizes.{IsNid};
 ghost use Rattle.keyring.specs.Contents.{Contents, accept_of, accepts, contents_of, key_of};
 ghost use Rattle.keyring.specs.Keys.{BreaksKeyringAt, Keys};
-ghost use Rattle.keyring.specs.Lines.{AreLines, KeyringLine, accepted, named};
+ghost use Rattle.keyring.specs.Laws.{LinesNameKeys};
+ghost use Rattle.keyring.specs.Lines.{KeyringLine, accepted};
 ghost use Rattle.keyring.specs.Texts.{direct_text};
 
 /// A file is read in one way.
@@ -30,9 +31,7 @@ pub fn accepted_lines()
 
 /// A text that spells no key by itself stands for a key exactly where one of the lines says so.
 pub fn named_lines()
-    ensures { (lines : List KeyringLine) (text : List ℕ) (key : Nid) → AreLines lines
-        → ((other : Nid) → IsNid other → text ≡ direct_text other → ⊥)
-        → (key_of (contents_of lines) text ≡ Some key) ↔ Contains lines (named text key) }
+    ensures { LinesNameKeys }
 {}
 
 /// A text that spells a key by itself stands for it, whatever the names are.
