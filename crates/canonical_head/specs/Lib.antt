@@ -1,6 +1,7 @@
 pub mod Ancestries
 pub mod Divergence
 pub mod Heads
+pub mod Laws
 pub mod Least
 pub mod Marks
 pub mod Numbers
