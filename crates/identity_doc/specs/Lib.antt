@@ -3,6 +3,7 @@ pub mod Documents
 pub mod IdentityChains
 pub mod IdentityFaults
 pub mod IdentityReaders
+pub mod Laws
 pub mod Majorities
 pub mod SignatureReaders
 pub mod Signatures

@@ -12,10 +12,10 @@ ghost use Rattle.identity_doc.specs.declared.fault.DocFault.{DocFault};
 ghost use Rattle.rad_base.specs.declared.names.Oid.{Oid};
 ghost use Rattle.rad_base.specs.declared.names.Rid.{Rid};
 ghost use Rattle.commit_graph.specs.Objects.{ObjectMap};
-ghost use Rattle.identity_doc.specs.declared.id_fault.IdFault.{IdFault};
 ghost use Rattle.identity_doc.specs.IdentityChains.{HasDocument, HasIdentity, IsIdentityChain};
 ghost use Rattle.commit_graph.specs.Objects.{Grows};
-ghost use Rattle.identity_doc.specs.IdentityFaults.{IsGet, IsIdFault};
+ghost use Rattle.identity_doc.specs.Laws.{IdentityChainStays, IdentityIsRefusedByFaultAlone};
+ghost use Rattle.identity_doc.specs.Laws.{OneIdFault};
 
 /// A value is at most one document, or is refused for at most one reason.
 pub fn one_document()
@@ -61,17 +61,13 @@ pub fn one_identity()
 /// A tip that has an identity is refused only where an object could not be had, or memory was
 /// refused.
 pub fn an_identity_is_not_refused()
-    ensures { (objects : ObjectMap) (keyring : Contents) (rid : Rid) (tip : Oid)
-        (doc : Doc) (fault : IdFault) → HasIdentity objects keyring rid tip doc
-        → IsIdFault objects keyring rid tip fault → IsGet fault }
+    ensures { IdentityIsRefusedByFaultAlone }
 {}
 
 /// A tip is refused for at most one reason, an object that could not be had or memory that was
 /// refused apart.
 pub fn one_id_fault()
-    ensures { (objects : ObjectMap) (keyring : Contents) (rid : Rid) (tip : Oid) (a b : IdFault)
-        → IsIdFault objects keyring rid tip a → IsIdFault objects keyring rid tip b
-        → (IsGet a → ⊥) → (IsGet b → ⊥) → a ≡ b }
+    ensures { OneIdFault }
 {}
 
 /// Documents of commits, identity chains and identities stay what they are as objects are added and
@@ -79,9 +75,7 @@ pub fn one_id_fault()
 pub fn identities_stay()
     ensures document { (old new : ObjectMap) (keyring : Contents) (commit : Oid) (doc : Doc)
         → Grows old new → HasDocument old keyring commit doc → HasDocument new keyring commit doc }
-    ensures chain { (old new : ObjectMap) (keyring : Contents) (rid : Rid) (tip : Oid)
-        (commits : List Oid) → Grows old new → IsIdentityChain old keyring rid tip commits
-        → IsIdentityChain new keyring rid tip commits }
+    ensures chain { IdentityChainStays }
     ensures identity { (old new : ObjectMap) (keyring : Contents) (rid : Rid) (tip : Oid)
         (doc : Doc) → Grows old new → HasIdentity old keyring rid tip doc
         → HasIdentity new keyring rid tip doc }
