@@ -9,15 +9,16 @@ use Rattle.rad_base.specs.declared.names.Rid.{Rid}
 use Rattle.rad_base.specs.Sizes.{IsOid}
 use Rattle.rad_base.proofs.OneFront.{one_oid}
 use Rattle.commit_graph.specs.Objects.{Object}
-use Rattle.fetch_wire.specs.Sections.{IsPair, pair_text}
+use Rattle.rad_base.specs.RemoteTexts.{AreRemotes, IsPair, pair_text}
 use Rattle.repo_entries.specs.Batches.{AreContents, IsBatch, content_size}
 use Rattle.repo_entries.specs.Items.{Item, claim, put, install, missed, refused}
 use Rattle.entry_bodies.specs.Bodies.{FitsInstall, FitsPut, SpellsItem, held_text, install_text, put_text}
-use Rattle.entry_bodies.specs.Lists.{SpellObjects, SpellRemotes}
+use Rattle.entry_bodies.specs.Lists.{SpellObjects}
 use Rattle.entry_bodies.specs.Readers.{SaysNone}
-use Rattle.entry_bodies.proofs.Contents.{IsHeld, one_object, one_pair}
-use Rattle.entry_bodies.proofs.Numbers.{one_four, one_two}
-use Rattle.entry_bodies.proofs.Texts.{all_one}
+use Rattle.entry_bodies.proofs.Contents.{IsHeld, one_object}
+use Rattle.rad_base.proofs.RemotesRead.{one_pair}
+use Rattle.rad_base.proofs.BigEndian.{one_four, one_two}
+use Rattle.rad_base.proofs.Texts.{all_one}
 
 -- ---- what stands behind a repository
 
@@ -38,7 +39,7 @@ put_counted rid rest more count r objects is small h fits e =
 
 -- the count of remotes, and the remotes, of an install that these bytes spell behind their first
 pub install_counted : (rid id : Oid) (rest more : List ℕ) (count : ℕ) (r : Rid) (i : Oid) (remotes : List (Nid × Oid)) → IsOid rid → IsOid id → count < 2 ^ 16
-    → rest ≡ rid.0 ++ (id.0 ++ (to_be_bytes w16 count ++ more)) → FitsInstall r i remotes → 2 ∷ rest ≡ install_text r i remotes → SpellRemotes more count remotes
+    → rest ≡ rid.0 ++ (id.0 ++ (to_be_bytes w16 count ++ more)) → FitsInstall r i remotes → 2 ∷ rest ≡ install_text r i remotes → AreRemotes more count remotes
 install_counted rid id rest more count r i remotes is is_id small h fits e =
     let one = one_oid rid r.0 (id.0 ++ (to_be_bytes w16 count ++ more)) (i.0 ++ (to_be_bytes w16 (length remotes) ++ flat_map pair_text remotes)) is fits.rid
     (sym h ∙ ap (λ (l : List ℕ). drop 1 l) e) in
@@ -58,7 +59,7 @@ no_put rid rest more count is small h none (missed r left caller) s = s.is
 no_put rid rest more count is small h none (refused r why caller) s = s.is
 
 pub no_install : (rid id : Oid) (rest more : List ℕ) (count : ℕ) → IsOid rid → IsOid id → count < 2 ^ 16 → rest ≡ rid.0 ++ (id.0 ++ (to_be_bytes w16 count ++ more))
-    → ((remotes : List (Nid × Oid)) → count ≤ 1024 → SpellRemotes more count remotes → ⊥) → SaysNone 2 rest
+    → ((remotes : List (Nid × Oid)) → count ≤ 1024 → AreRemotes more count remotes → ⊥) → SaysNone 2 rest
 no_install rid id rest more count is is_id small h none (claim r caller) s = s.is
 no_install rid id rest more count is is_id small h none (put r objects caller) s = absurd (omega (arith, ap (λ (l : List ℕ). get_or l 0 0) s.text))
 no_install rid id rest more count is is_id small h none (install r i remotes caller) s =

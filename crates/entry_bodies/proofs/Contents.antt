@@ -8,10 +8,10 @@ use Rattle.rad_base.specs.declared.names.Nid.{Nid}
 use Rattle.rad_base.specs.declared.names.Oid.{Oid}
 use Rattle.rad_base.specs.Sizes.{IsNid}
 use Rattle.rad_base.proofs.OneFront.{one_front, one_nid, one_oid}
-use Rattle.fetch_wire.specs.Sections.{IsPair, kind_byte, pair_text}
+use Rattle.fetch_wire.specs.Sections.{kind_byte}
 use Rattle.entry_bodies.specs.Bodies.{held_text}
-use Rattle.entry_bodies.proofs.Numbers.{one_four}
-use Rattle.entry_bodies.proofs.Texts.{OneInFront}
+use Rattle.rad_base.proofs.BigEndian.{one_four}
+use Rattle.rad_base.proofs.Texts.{OneInFront}
 
 -- kinds of one byte are one
 one_kind : (k l : Kind) → kind_byte k ≡ kind_byte l → k ≡ l
@@ -69,17 +69,3 @@ one_object o p a b ho hp e =
     let kinds = one_kind o.0 p.0 (ap (λ (l : List ℕ). get_or l 0 0) f) in
     let contents = one_content o.1 p.1 a b ho hp (ap (λ (l : List ℕ). drop 1 l) f) in
     ((λ i. (kinds i, contents.0 i)), contents.1)
-
--- the remote in front is one
-pub one_pair : OneInFront IsPair pair_text
-one_pair p q a b hp hq e =
-    let nodes = one_nid p.0 q.0 (p.1.0 ++ a) (q.1.0 ++ b) hp.0 hq.0 (sym (append_assoc p.0.0 p.1.0 a) ∙ e ∙ append_assoc q.0.0 q.1.0 b) in
-    let oids = one_oid p.1 q.1 a b hp.1 hq.1 nodes.1 in
-    ((λ i. (nodes.0 i, oids.0 i)), oids.1)
-
--- no remote stands where too few bytes do
-pub no_pair_short : (node : Nid) (bytes behind : List ℕ) → IsNid node → bytes ≡ node.0 ++ behind → length behind < 20
-    → (pair : Nid × Oid) (rest : List ℕ) → IsPair pair → bytes ≡ pair_text pair ++ rest → ⊥
-no_pair_short node bytes behind is h short pair rest good e =
-    let nodes = one_nid node pair.0 behind (pair.1.0 ++ rest) is good.0 (sym h ∙ e ∙ append_assoc pair.0.0 pair.1.0 rest) in
-    omega (arith, short, ap length nodes.1, length-append pair.1.0 rest, good.1.size)

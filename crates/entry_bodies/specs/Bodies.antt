@@ -8,7 +8,8 @@ use Rattle.rad_base.specs.declared.names.Rid.{Rid}
 use Rattle.rad_base.specs.Order.{IsRising}
 use Rattle.rad_base.specs.Sizes.{IsOid}
 use Rattle.commit_graph.specs.Objects.{Object}
-use Rattle.fetch_wire.specs.Sections.{IsPair, kind_byte, pair_text}
+use Rattle.fetch_wire.specs.Sections.{kind_byte}
+use Rattle.rad_base.specs.RemoteTexts.{IsPair, pair_text}
 use Rattle.repo_entries.specs.Batches.{AreContents}
 use Rattle.repo_entries.specs.Items.{Item, claim, put, install, missed, refused}
 use Rattle.entry_bodies.specs.declared.body.Body.{Body}

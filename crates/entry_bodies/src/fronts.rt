@@ -1,38 +1,16 @@
 // What stands at the front of a body's bytes.
-ghost use Rattle.std.specs.Prelude.{◌≡◌, ◌∷◌, ◌++◌, ◌<◌, ◌≤◌, ◌^◌, ℕ, List, length, IfSome, IfNone};
-ghost use Rattle.std.specs.Int.{to_be_bytes, w16, w32};
+ghost use Rattle.std.specs.Prelude.{◌≡◌, ◌∷◌, ◌++◌, ◌≤◌, ℕ, List, length, IfSome, IfNone};
+ghost use Rattle.std.specs.Int.{to_be_bytes, w32};
 ghost use Rattle.commit_graph.specs.Objects.{Object};
-ghost use Rattle.fetch_wire.specs.Sections.{IsPair, kind_byte, pair_text};
-ghost use Rattle.rad_base.specs.declared.names.Nid.{Nid};
-ghost use Rattle.rad_base.specs.declared.names.Oid.{Oid};
+ghost use Rattle.fetch_wire.specs.Sections.{kind_byte};
 ghost use Rattle.git_object.specs.declared.kind.Kind.{Kind};
 ghost use Rattle.entry_bodies.specs.Bodies.{held_text};
 
 use git_object::Kind;
-use rad_base::{Nid, Oid, nid_front, oid_front};
+use rad_base::four_bytes_front;
 
 /// The most bytes that a content may have.
 const MOST_CONTENT: usize = 33_554_432;
-
-/// The number in the first four bytes. None where there are fewer.
-pub(crate) fn four_bytes_front(bytes: &[u8]) -> Option<(u32, &[u8])>
-    ensures found { IfSome result (λ x. (x.0 < 2 ^ 32)
-        × (bytes.now ≡ to_be_bytes w32 x.0 ++ x.1.now)) }
-    ensures none { IfNone result (length bytes.now < 4) }
-{
-    let (number, rest) = bytes.split_first_chunk::<4>()?;
-    Some((u32::from_be_bytes(*number), rest))
-}
-
-/// The number in the first two bytes. None where there are fewer.
-pub(crate) fn two_bytes_front(bytes: &[u8]) -> Option<(u16, &[u8])>
-    ensures found { IfSome result (λ x. (x.0 < 2 ^ 16)
-        × (bytes.now ≡ to_be_bytes w16 x.0 ++ x.1.now)) }
-    ensures none { IfNone result (length bytes.now < 2) }
-{
-    let (number, rest) = bytes.split_first_chunk::<2>()?;
-    Some((u16::from_be_bytes(*number), rest))
-}
 
 // The kind that a byte stands for.
 fn kind_of(byte: u8) -> Option<Kind>
@@ -84,16 +62,4 @@ pub(crate) fn object_front(bytes: &[u8]) -> Option<(Kind, &[u8], &[u8])>
     let (kind, rest) = kind_front(bytes)?;
     let (content, rest) = content_front(rest)?;
     Some((kind, content, rest))
-}
-
-/// The remote at the front, and what stands behind it. None where there are fewer than 52 bytes.
-pub(crate) fn pair_front(bytes: &[u8]) -> Option<(Nid, Oid, &[u8])>
-    ensures found { IfSome result (λ x. IsPair (x.0, x.1)
-        × (bytes.now ≡ pair_text (x.0, x.1) ++ x.2.now)) }
-    ensures none { IfNone result ((pair : Nid × Oid) (rest : List ℕ)
-        → IsPair pair → bytes.now ≡ pair_text pair ++ rest → ⊥) }
-{
-    let (node, rest) = nid_front(bytes)?;
-    let (oid, rest) = oid_front(rest)?;
-    Some((node, oid, rest))
 }

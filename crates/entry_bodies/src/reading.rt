@@ -5,9 +5,10 @@ ghost use Rattle.entry_bodies.specs.Bodies.{SpellsItem, item_in};
 ghost use Rattle.entry_bodies.specs.Readers.{Says, SaysNone};
 
 use crate::Body;
-use crate::fronts::{four_bytes_front, two_bytes_front};
-use crate::lists::{objects_in, remotes_in};
-use rad_base::{NoMemory, Offer, Rid, oid_front};
+use crate::lists::objects_in;
+use rad_base::{
+    NoMemory, Offer, Rid, four_bytes_front, oid_front, remotes_in, two_bytes_front,
+};
 use std::alloc::Global;
 
 /// The most objects of a put.

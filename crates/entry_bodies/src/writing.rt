@@ -2,7 +2,8 @@
 ghost use Rattle.std.specs.Prelude.{◌≡◌, ◌++◌, ◌≤◌, ◌<◌, ◌^◌, ◌*◌, length, IfOk, OnOk};
 ghost use Rattle.std.specs.List.{flat_map};
 ghost use Rattle.repo_entries.specs.Batches.{AreContents, IsBatch};
-ghost use Rattle.fetch_wire.specs.Sections.{kind_byte, pair_text};
+ghost use Rattle.fetch_wire.specs.Sections.{kind_byte};
+ghost use Rattle.rad_base.specs.RemoteTexts.{pair_text};
 ghost use Rattle.entry_bodies.specs.Bodies.{held_text, install_text, put_text};
 
 use git_object::Kind;

@@ -22,7 +22,8 @@ use Rattle.unit_reader.specs.Spelling.{only_text}
 use Rattle.unit_reader.specs.Units.{Verdict, Begins, Ends, Breaks, only}
 use Rattle.fetch_wire.specs.Judging.{Said, break_at, head_byte, judge_code, judge_content, judge_count, judge_end, judge_front, judge_head, judge_kind, judge_length, judge_letter, judge_next, judge_object, judge_offer, judge_pair, judge_part, judge_refusal, judge_remote, kind_in, offer_of, onto, with_id, with_remotes}
 use Rattle.fetch_wire.specs.SectionReadings.{AreObjects, AreParts, IsObjectPart, begun_of, begun_text}
-use Rattle.fetch_wire.specs.Sections.{IsCode, IsContent, IsHead, IsOffer, IsPair, end_word, kind_byte, object_text, offer_text, pair_text, part_text}
+use Rattle.fetch_wire.specs.Sections.{IsCode, IsContent, IsHead, IsOffer, end_word, kind_byte, object_text, offer_text, part_text}
+use Rattle.rad_base.specs.RemoteTexts.{IsPair, pair_text}
 use Rattle.fetch_wire.specs.declared.fault.Break.{Break}
 use Rattle.fetch_wire.specs.declared.part.Part.{Part}
 use Rattle.fetch_wire.specs.declared.part.Part.TheVariants as part

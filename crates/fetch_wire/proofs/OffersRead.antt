@@ -18,7 +18,8 @@ use Rattle.rad_base.specs.declared.offer.Offer.{Offer}
 use Rattle.unit_reader.specs.Units.{Verdict, Begins, Ends, Breaks, FrontsBegin, Reading, behind, only, reading}
 use Rattle.unit_reader.proofs.Readings.{unit_read}
 use Rattle.fetch_wire.specs.Judging.{Said, break_at, further, is_over, judge, judge_count, judge_pair, offer_of, onto, with_id, with_remotes}
-use Rattle.fetch_wire.specs.Sections.{IsOffer, IsPair, offer_text, pair_text}
+use Rattle.fetch_wire.specs.Sections.{IsOffer, offer_text}
+use Rattle.rad_base.specs.RemoteTexts.{IsPair, pair_text}
 use Rattle.fetch_wire.specs.declared.fault.Break.{Break}
 use Rattle.fetch_wire.specs.declared.part.Part.{Part}
 use Rattle.fetch_wire.specs.declared.part.Part.TheVariants as part

@@ -8,7 +8,8 @@ use Rattle.rad_base.specs.declared.names.Nid.{Nid}
 use Rattle.rad_base.specs.declared.names.Oid.{Oid}
 use Rattle.unit_reader.specs.Units.{Breaks, FrontsBegin, Place, Reading, At, Broken, reading}
 use Rattle.fetch_wire.specs.Judging.{first_unit, is_over, judge}
-use Rattle.fetch_wire.specs.Sections.{IsCode, IsContent, IsHead, IsPair, Object, Sections, kind_byte, pair_text, part_text, parts_of}
+use Rattle.fetch_wire.specs.Sections.{IsCode, IsContent, IsHead, Object, Sections, kind_byte, part_text, parts_of}
+use Rattle.rad_base.specs.RemoteTexts.{IsPair, pair_text}
 use Rattle.fetch_wire.specs.declared.fault.Break.{Break}
 use Rattle.fetch_wire.specs.declared.part.Part.{Part}
 use Rattle.fetch_wire.specs.declared.part.Part.TheVariants as part

@@ -4,6 +4,7 @@ use Rattle.std.specs.List.{AllByRecursion, flat_map}
 use Rattle.std.specs.Int.{to_be_bytes, w16, w32}
 use Rattle.hex.specs.Hex.{IsBytes}
 use Rattle.rad_base.specs.Order.{IsRising}
+use Rattle.rad_base.specs.RemoteTexts.{IsPair, pair_text}
 use Rattle.rad_base.specs.Sizes.{IsNid, IsOid}
 use Rattle.rad_base.specs.declared.names.Nid.{Nid}
 use Rattle.rad_base.specs.declared.names.Oid.{Oid}
@@ -21,10 +22,6 @@ kind_byte kinds.Commit = 1
 kind_byte kinds.Tree = 2
 kind_byte kinds.Blob = 3
 kind_byte kinds.Tag = 4
-
--- a remote: its key and the name of its commit
-abbrev pub pair_text : Nid × Oid → List ℕ
-pair_text pair = pair.0.0 ++ pair.1.0
 
 -- the head of an identity section: the letter I, the identity commit, the count of remotes, the remotes
 abbrev pub offer_text : Offer → List ℕ
@@ -46,10 +43,6 @@ part_text part.TipsHead = 68 ∷ []
 part_text (part.Object kind content) = object_text kind content
 part_text part.End = end_word
 part_text (part.Refused code) = 82 ∷ code ∷ []
-
--- a remote of 32 and 20 bytes
-abbrev pub IsPair : Nid × Oid → Type 0
-IsPair pair = IsNid pair.0 × IsOid pair.1
 
 -- an offer within its limits
 pub record IsOffer (offer : Offer) : Type 0 where

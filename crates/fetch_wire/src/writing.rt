@@ -1,7 +1,8 @@
 // Writing the parts of sections.
 ghost use Rattle.std.specs.Prelude.{◌≡◌, ◌++◌, ◌≤◌, ◌<◌, ◌^◌, IfOk, OnOk, length};
 ghost use Rattle.std.specs.List.{flat_map};
-ghost use Rattle.fetch_wire.specs.Sections.{IsWithin, kind_byte, object_text, offer_text, pair_text, part_text};
+ghost use Rattle.fetch_wire.specs.Sections.{IsWithin, kind_byte, object_text, offer_text, part_text};
+ghost use Rattle.rad_base.specs.RemoteTexts.{pair_text};
 
 use crate::Part;
 use git_object::Kind;

@@ -1,5 +1,5 @@
 -- Lists whose keys rise.
-use Rattle.std.proofs.Common.{◌≡◌, ℕ, zero, suc, ◌+◌, ◌-◌, ◌<◌, true, List, [], ◌∷◌, ◌++◌, length, get_or, slice_get, Option, Some, refl, ap, subst, sym, ⊎_elim, ◌∙◌, arith}
+use Rattle.std.proofs.Common.{◌≡◌, ℕ, zero, suc, ◌+◌, ◌-◌, ◌<◌, Bool, true, List, [], ◌∷◌, ◌++◌, length, get_or, slice_get, Option, Some, refl, ap, subst, sym, ⊎_elim, ◌∙◌, arith}
 use Rattle.std.specs.Prelude.{Contains}
 use Rattle.std.specs.Cmp.{IsTotalOrder}
 use Rattle.std.specs.Cmp.Lexicographic.{slice_cmp}
@@ -8,7 +8,7 @@ use Rattle.std.specs.declared.cmp.Ordering.{Ordering}
 use Rattle.std.specs.declared.cmp.Ordering.TheVariants.{Less, Equal, Greater}
 use Rattle.std.specs.Ordering.{is_lt, nat_cmp, ordering_index, ordering_reverse}
 use Rattle.std.proofs.lemmas.List.Sorted.{searchable_from_sorted}
-use Rattle.rad_base.specs.Order.{IsAbove, IsAboveBy, IsBelow, RiseFrom, RisesBy, is_above, last_from, nid_cmp, passes_if_some}
+use Rattle.rad_base.specs.Order.{IsAbove, IsAboveBy, IsBelow, RiseFrom, RisesBy, is_above, last_from, last_passes, nid_cmp, node_of, passes_if_some}
 use Rattle.rad_base.specs.declared.names.Nid.{Nid}
 use Rattle.rad_base.specs.declared.names.Oid.{Oid}
 use Rattle.rad_base.proofs.Members.{contains_cases, contains_nothing}
@@ -28,6 +28,13 @@ pub rises_last : {X K : Type 0} (key : X → K) (order : K → K → Ordering) (
 rises_last key order [] x rising = tt
 rises_last key order (a ∷ []) x rising = rising.0
 rises_last key order (a ∷ b ∷ xs) x rising = rises_last key order (b ∷ xs) x rising.1
+
+-- of rising items each is above those before it
+pub above_front : {X K : Type 0} (key : X → K) (order : K → K → Ordering) (xs : List X) (x : X) (more : List X) → RisesBy key order (xs ++ x ∷ more)
+    → IsAboveBy key order xs (key x)
+above_front key order [] x more rising = tt
+above_front key order (a ∷ []) x more rising = rising.0
+above_front key order (a ∷ b ∷ xs) x more rising = above_front key order (b ∷ xs) x more rising.1
 
 -- the items behind the first rise
 pub rises_tail : {X K : Type 0} (key : X → K) (order : K → K → Ordering) (x : X) (xs : List X) → RisesBy key order (x ∷ xs) → RisesBy key order xs
@@ -86,26 +93,38 @@ rises_from key before [] rising = tt
 rises_from key before (x ∷ []) rising = tt
 rises_from key before (x ∷ y ∷ xs) rising = (rising.1.0, rises_from key (Some (key x)) (y ∷ xs) rising.1)
 
--- ---- remotes
+-- ---- by the test of the last
 
 less : (o : Ordering) → is_lt o ≡ true → o ≡ Less
 less Less e = refl
 less Equal e = cc e
 less Greater e = cc e
 
-last_later : (a b : Nid × Oid) (rest : List (Nid × Oid)) (node : Nid) → is_above (a ∷ b ∷ rest) node ≡ is_above (b ∷ rest) node
-last_later a b rest node =
+last_later : {X : Type 0} (test : X → Bool) (a b : X) (rest : List X) → last_passes test (a ∷ b ∷ rest) ≡ last_passes test (b ∷ rest)
+last_later {X} test a b rest =
     let last : length (a ∷ b ∷ rest) - 1 ≡ suc (length (b ∷ rest) - 1) = omega arith in
-    ap (λ (k : ℕ). passes_if_some (λ (r : Nid × Oid). is_lt (nid_cmp r.0 node)) (slice_get (a ∷ b ∷ rest) k)) last
+    ap (λ (k : ℕ). passes_if_some test (slice_get (a ∷ b ∷ rest) k)) last
+
+-- a key that passes the test is above the last one
+pub above_by : {X K : Type 0} (key : X → K) (order : K → K → Ordering) (xs : List X) (k : K) → last_passes (λ last. is_lt (order (key last) k)) xs ≡ true
+    → IsAboveBy key order xs k
+above_by key order [] k e = tt
+above_by key order (a ∷ []) k e = less (order (key a) k) e
+above_by key order (a ∷ b ∷ rest) k e = above_by key order (b ∷ rest) k (sym (last_later (λ last. is_lt (order (key last) k)) a b rest) ∙ e)
+
+-- and no other is
+pub passes_by : {X K : Type 0} (key : X → K) (order : K → K → Ordering) (xs : List X) (k : K) → IsAboveBy key order xs k
+    → last_passes (λ last. is_lt (order (key last) k)) xs ≡ true
+passes_by key order [] k h = refl
+passes_by key order (a ∷ []) k h = ap is_lt h
+passes_by key order (a ∷ b ∷ rest) k h = last_later (λ last. is_lt (order (key last) k)) a b rest ∙ passes_by key order (b ∷ rest) k h
+
+-- ---- remotes
 
 -- a key that passes the test is above the last one
 pub above : (remotes : List (Nid × Oid)) (node : Nid) → is_above remotes node ≡ true → IsAbove remotes node
-above [] node e = tt
-above (a ∷ []) node e = less (nid_cmp a.0 node) e
-above (a ∷ b ∷ rest) node e = above (b ∷ rest) node (sym (last_later a b rest node) ∙ e)
+above remotes node e = above_by node_of nid_cmp remotes node e
 
 -- and no other is
 pub passes : (remotes : List (Nid × Oid)) (node : Nid) → IsAbove remotes node → is_above remotes node ≡ true
-passes [] node h = refl
-passes (a ∷ []) node h = ap is_lt h
-passes (a ∷ b ∷ rest) node h = last_later a b rest node ∙ passes (b ∷ rest) node h
+passes remotes node h = passes_by node_of nid_cmp remotes node h

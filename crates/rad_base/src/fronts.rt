@@ -1,6 +1,10 @@
 // Reading what stands at the front of bytes: words, names and lines.
-ghost use Rattle.std.specs.Prelude.{◌≡◌, ◌++◌, ◌<◌, ℕ, List, length, IfSome, IfNone};
+ghost use Rattle.std.specs.Prelude.{◌≡◌, ◌++◌, ◌<◌, ◌^◌, ℕ, List, length, IfSome, IfNone};
+ghost use Rattle.std.specs.Int.{to_be_bytes, w16, w32, w64};
 ghost use Rattle.hex.specs.Hex.{encode_lower};
+ghost use Rattle.rad_base.specs.declared.names.Nid.{Nid};
+ghost use Rattle.rad_base.specs.declared.names.Oid.{Oid};
+ghost use Rattle.rad_base.specs.RemoteTexts.{IsPair, pair_text};
 ghost use Rattle.rad_base.specs.Sizes.{IsNid, IsOid, IsSig, Lacks, SplitsAt};
 
 use crate::hexadecimal::{parse_nid, parse_oid, parse_sig};
@@ -96,4 +100,46 @@ pub fn sig_text_front(bytes: &[u8]) -> Option<(Sig, &[u8])>
     let (digits, rest) = bytes.split_first_chunk::<128>()?;
     let sig = parse_sig(digits)?;
     Some((sig, rest))
+}
+
+/// The number in the first two bytes. None where there are fewer.
+pub fn two_bytes_front(bytes: &[u8]) -> Option<(u16, &[u8])>
+    ensures found { IfSome result (λ x. (x.0 < 2 ^ 16)
+        × (bytes.now ≡ to_be_bytes w16 x.0 ++ x.1.now)) }
+    ensures none { IfNone result (length bytes.now < 2) }
+{
+    let (number, rest) = bytes.split_first_chunk::<2>()?;
+    Some((u16::from_be_bytes(*number), rest))
+}
+
+/// The number in the first four bytes. None where there are fewer.
+pub fn four_bytes_front(bytes: &[u8]) -> Option<(u32, &[u8])>
+    ensures found { IfSome result (λ x. (x.0 < 2 ^ 32)
+        × (bytes.now ≡ to_be_bytes w32 x.0 ++ x.1.now)) }
+    ensures none { IfNone result (length bytes.now < 4) }
+{
+    let (number, rest) = bytes.split_first_chunk::<4>()?;
+    Some((u32::from_be_bytes(*number), rest))
+}
+
+/// The number in the first eight bytes. None where there are fewer.
+pub fn eight_bytes_front(bytes: &[u8]) -> Option<(u64, &[u8])>
+    ensures found { IfSome result (λ x. (x.0 < 2 ^ 64)
+        × (bytes.now ≡ to_be_bytes w64 x.0 ++ x.1.now)) }
+    ensures none { IfNone result (length bytes.now < 8) }
+{
+    let (number, rest) = bytes.split_first_chunk::<8>()?;
+    Some((u64::from_be_bytes(*number), rest))
+}
+
+/// The remote at the front, and what stands behind it. None where there are fewer than 52 bytes.
+pub fn remote_front(bytes: &[u8]) -> Option<(Nid, Oid, &[u8])>
+    ensures found { IfSome result (λ x. IsPair (x.0, x.1)
+        × (bytes.now ≡ pair_text (x.0, x.1) ++ x.2.now)) }
+    ensures none { IfNone result ((pair : Nid × Oid) (rest : List ℕ)
+        → IsPair pair → bytes.now ≡ pair_text pair ++ rest → ⊥) }
+{
+    let (node, rest) = nid_front(bytes)?;
+    let (oid, rest) = oid_front(rest)?;
+    Some((node, oid, rest))
 }

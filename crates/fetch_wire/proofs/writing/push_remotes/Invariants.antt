@@ -1,6 +1,6 @@
 use Rattle.std.proofs.Common.{◌≡◌, ◌++◌, take}
 use Rattle.std.specs.List.{flat_map}
-use Rattle.fetch_wire.specs.Sections.{pair_text}
+use Rattle.rad_base.specs.RemoteTexts.{pair_text}
 use Rattle.fetch_wire.proofs.writing.push_remotes.Given as goal
 
 abbrev pub invariant-remotes : goal.invariant-remotes

@@ -1,6 +1,6 @@
-use Rattle.std.proofs.Common.{◌≡◌, [], List, ℕ, length, ap, arith, rules}
-use Rattle.entry_bodies.proofs.ReadSoFar.{no_remotes, not_rising, remotes_not_all}
-use Rattle.entry_bodies.proofs.lists.remotes_in.Goals as goal
+use Rattle.std.proofs.Common.{◌≡◌, arith}
+use Rattle.rad_base.proofs.RemotesRead.{no_remotes, not_rising, remotes_not_all}
+use Rattle.rad_base.proofs.remotes_read.remotes_in.Goals as goal
 
 pub returns-in_default-clause-none : goal.returns-in_default-clause-none
 returns-in_default-clause-none c =

@@ -1,7 +1,7 @@
 use Rattle.std.proofs.Common.{◌++◌, List, ℕ, sym, ap, ◌∙◌, arith}
 use Rattle.rad_base.proofs.OneFront.{front_of}
-use Rattle.entry_bodies.proofs.Numbers.{four_of}
-use Rattle.entry_bodies.proofs.fronts.four_bytes_front.Goals as goal
+use Rattle.rad_base.proofs.BigEndian.{four_of}
+use Rattle.rad_base.proofs.fronts.four_bytes_front.Goals as goal
 
 pub returns-clause-found : goal.returns-clause-found
 returns-clause-found c =
