@@ -1,5 +1,5 @@
 -- Outcomes at which the judging of a remote stops.
-use Rattle.std.proofs.Common.{◌≡◌, ℕ, List, [], refl, subst, inl, inr}
+use Rattle.std.proofs.Common.{List, inl}
 use Rattle.rad_base.specs.declared.names.Nid.{Nid}
 use Rattle.rad_base.specs.declared.names.Oid.{Oid}
 use Rattle.commit_graph.specs.Objects.{ObjectMap}
@@ -8,12 +8,11 @@ use Rattle.signed_refs.specs.Refusals.{IsFault, Refuses}
 use Rattle.signed_refs.specs.declared.fault.SigFault.{SigFault}
 use Rattle.signed_refs.specs.declared.fault.SigFault.TheVariants as signed
 use Rattle.signed_refs.proofs.Alone.{refused_by_fault}
-use Rattle.repo_slice.specs.declared.outcomes.Outcome.{Outcome}
 use Rattle.repo_slice.specs.declared.outcomes.Outcome.TheVariants.{OutOfScope, Same, Stale, Missing, BadObject, BadSigrefs, NotAccepted, Grafted, Forked, Incomplete, Crowded, Advanced}
 use Rattle.repo_slice.specs.declared.stop.Halt.{Halt}
 use Rattle.repo_slice.specs.declared.stop.Halt.TheVariants as halts
-use Rattle.repo_slice.specs.Outcomes.{Case, IsLater, IsNews, IsOutcome, count_after, if_advanced}
-use Rattle.repo_slice.specs.Parts.{IsEarly, IsHalt, IsLinesHalt, IsNoLater, IsNoNews, IsReachHalt, of_sig}
+use Rattle.repo_slice.specs.Outcomes.{Case, IsLater, IsNews}
+use Rattle.repo_slice.specs.Parts.{IsHalt, IsNoLater, IsReachHalt, of_sig}
 
 module _ (m : ObjectMap) (c : Case) (node : Nid) (commit : Oid) where
   -- a refusal of signed refs is an outcome
@@ -52,50 +51,3 @@ module _ (m : ObjectMap) (c : Case) (node : Nid) (commit : Oid) where
   reach_halt (halts.Outcome Crowded) news h = absurd h
   reach_halt (halts.Outcome Advanced) news h = absurd h
   reach_halt (halts.Get why) news h = (tt, tt)
-
-  -- nor is what is no news
-  pub news_not_later : (halt : Halt) → IsNoNews m c node commit halt → IsNoLater m c node commit halt
-  news_not_later (halts.Outcome outcome) h = λ refs later. h later.news
-  news_not_later (halts.Get why) h = tt
-
-  -- what the refs reach is an outcome of a later commit
-  pub lines_halt : (refs : List Line) (halt : Halt) → IsLater m c node commit refs → IsLinesHalt m refs halt → IsHalt m c node commit halt
-  lines_halt refs (halts.Outcome OutOfScope) later h = absurd h
-  lines_halt refs (halts.Outcome Same) later h = absurd h
-  lines_halt refs (halts.Outcome Stale) later h = absurd h
-  lines_halt refs (halts.Outcome (Missing oid)) later h = absurd h
-  lines_halt refs (halts.Outcome (BadObject oid)) later h = λ count. inr (refs, later, h)
-  lines_halt refs (halts.Outcome BadSigrefs) later h = absurd h
-  lines_halt refs (halts.Outcome NotAccepted) later h = absurd h
-  lines_halt refs (halts.Outcome Grafted) later h = absurd h
-  lines_halt refs (halts.Outcome Forked) later h = absurd h
-  lines_halt refs (halts.Outcome (Incomplete oid)) later h = λ count. (refs, later, h)
-  lines_halt refs (halts.Outcome Crowded) later h = absurd h
-  lines_halt refs (halts.Outcome Advanced) later h = absurd h
-  lines_halt refs (halts.Get why) later h = tt
-
-  -- an early outcome does not depend on how many remotes stand
-  pub halt_outcome : (outcome : Outcome) (count : ℕ) → IsHalt m c node commit (halts.Outcome outcome) → IsOutcome m c count node commit outcome
-  halt_outcome outcome count h = h count
-
--- a refusal of signed refs is an early outcome
-pub sig_early : (fault : SigFault) → IsEarly (of_sig fault)
-sig_early (signed.Missing oid) = tt
-sig_early (signed.BadObject oid) = tt
-sig_early signed.BadSigrefs = tt
-sig_early signed.NotAccepted = tt
-sig_early signed.Grafted = tt
-sig_early (signed.Get why) = tt
-
--- no early outcome is that the remote advances
-pub early_apart : (outcome : Outcome) → IsEarly (halts.Outcome outcome) → outcome ≡ Advanced → ⊥
-early_apart outcome h e = subst (λ (o : Outcome). IsEarly (halts.Outcome o)) e h
-
--- what does not advance adds nothing
-pub nothing_added : (outcome : Outcome) (p : Nid × Oid) → (outcome ≡ Advanced → ⊥) → if_advanced outcome p [] ≡ []
-nothing_added Advanced p other = absurd (other refl)
-nothing_added outcome p other = refl
-
-pub nothing_counted : (remotes : List (Nid × Oid)) (count : ℕ) (node : Nid) (outcome : Outcome) → (outcome ≡ Advanced → ⊥) → count_after remotes count node outcome ≡ count
-nothing_counted remotes count node Advanced other = absurd (other refl)
-nothing_counted remotes count node outcome other = refl

@@ -8,6 +8,7 @@ pub mod NextStates
 pub mod OfferedAgain
 pub mod OneOutcome
 pub mod OneVerdict
+pub mod Passes
 pub mod RefsOf
 pub mod Replacing
 pub mod Staging

@@ -4,6 +4,7 @@ pub mod Keeps
 pub mod MemKeeps
 pub mod Outcomes
 pub mod Parts
+pub mod Rounds
 pub mod Slices
 pub mod Standing
 pub mod Verdicts

@@ -22,7 +22,6 @@ use Rattle.repo_slice.specs.declared.stop.Stop.{Stop}
 use Rattle.repo_slice.specs.declared.stop.Stop.TheVariants as stops
 use Rattle.repo_slice.specs.declared.terms.Terms.{Terms}
 use Rattle.repo_entries.specs.declared.whole.Whole.TheVariants.{IdForked, IdFault, TooFewDelegates}
-use Rattle.repo_slice.specs.Good.{line_roots}
 use Rattle.repo_slice.specs.Outcomes.{Case, IsCrowded, IsLater, IsNews, IsOutcome, count_after}
 use Rattle.repo_slice.specs.Verdicts.{IsChecked, IsIdRefused, case_of}
 
@@ -94,13 +93,6 @@ IsReachHalt objects commit (halts.Outcome (outcomes.Missing oid)) = IsClosure ob
 IsReachHalt objects commit (halts.Outcome (outcomes.BadObject oid)) = IsClosure objects (as_commit commit ∷ []) (closures.BadObject oid)
 IsReachHalt objects commit (halts.Outcome other) = ⊥
 IsReachHalt objects commit (halts.Get why) = Unit {0}
-
--- why what refs reach is not whole
-abbrev pub IsLinesHalt : ObjectMap → List Line → Halt → Type 0
-IsLinesHalt objects refs (halts.Outcome (outcomes.Incomplete oid)) = IsClosure objects (line_roots refs) (closures.Missing oid)
-IsLinesHalt objects refs (halts.Outcome (outcomes.BadObject oid)) = IsClosure objects (line_roots refs) (closures.BadObject oid)
-IsLinesHalt objects refs (halts.Outcome other) = ⊥
-IsLinesHalt objects refs (halts.Get why) = Unit {0}
 
 -- the outcome of a remote that is whole
 abbrev pub IsLastOutcome : Case → ℕ → Nid → Outcome → Type 0

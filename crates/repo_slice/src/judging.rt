@@ -1,26 +1,32 @@
 // The judging of an offer over any objects.
-ghost use Rattle.std.specs.Prelude.{◌≡◌, ◌≤◌, ◌++◌, [], length, IfErr, IfOk, None, OnOk, Some};
+ghost use Rattle.std.specs.Prelude.{◌≡◌, ◌≤◌, ◌++◌, [], List, length, None, Some};
+ghost use Rattle.std.specs.Prelude.{IfErr, IfOk, OnOk};
 ghost use Rattle.std.specs.Option.{ForSome};
+ghost use Rattle.rad_base.specs.Order.{IsAbove, commit_of};
 ghost use Rattle.commit_graph.specs.Faults.{KeepsObjects};
+ghost use Rattle.commit_graph.specs.Many.{AreClosures};
+ghost use Rattle.commit_graph.specs.Objects.{ObjectMap};
+ghost use Rattle.commit_graph.specs.declared.root.Root.{Root};
 ghost use Rattle.identity_doc.specs.IdentityChains.{HasIdentity};
 ghost use Rattle.repo_slice.specs.Good.{IsGood};
-ghost use Rattle.rad_base.specs.Order.{IsAbove};
 ghost use Rattle.repo_slice.specs.Outcomes.{AreOutcomes, advanced_in, count_after, if_advanced};
 ghost use Rattle.repo_slice.specs.Parts.{case_in};
-ghost use Rattle.rad_base.specs.Order.{commit_of};
+ghost use Rattle.repo_slice.specs.Rounds.{AreEarly, AreProgress};
 ghost use Rattle.repo_slice.specs.Standing.{delegates_in};
 ghost use Rattle.repo_slice.specs.Verdicts.{IsChecked, IsVerdict};
 
 use crate::identity::judge_id;
+use crate::progress::{Progress, reach_of};
 use crate::remote::outcome_of;
+use crate::rounds::round_at;
 use crate::stop::Stop;
 use crate::terms::Terms;
-use crate::{Judged, Outcome, Outcomes, Scope, State, Whole};
-use commit_graph::{GetFault, Objects};
+use crate::{Judged, Outcome, Outcomes, Scope, Stage, State, Whole};
+use commit_graph::answer::Closure;
+use commit_graph::{GetFault, Objects, closures};
 use keyring::Keyring;
 use rad_base::{Nid, NoMemory, Offer, Oid, Remotes};
 use std::alloc::Global;
-use std::collections::BTreeSet;
 
 /// The outcomes of offered remotes, and those that advance.
 #[derive(Drop)]
@@ -58,6 +64,44 @@ fn note(
     Ok(())
 }
 
+/// The outcome of each remote, by the closures of what the refs of those name that wait.
+fn conclude(
+    alloc: Global,
+    terms: &Terms<'_>,
+    remotes: &Remotes,
+    found: &[Progress],
+    answers: &[Closure],
+) -> Result<Remarks, NoMemory>
+    requires few { length terms.now.state.now.remotes ≤ 1024 }
+    requires long { length found.now ≡ length remotes.now }
+    requires early { AreEarly found.now }
+    ensures told { (m : ObjectMap) (roots : List Root) → AreClosures m roots answers.now
+        → AreProgress m (case_in terms.now) Stage.Tips roots remotes.now found.now
+        → IfOk result (λ remarks. AreOutcomes m (case_in terms.now)
+        (length terms.now.state.now.remotes) remotes.now remarks.outcomes) }
+    ensures advanced { IfOk result
+        (λ remarks. remarks.advanced ≡ advanced_in remotes.now remarks.outcomes) }
+{
+    let mut outcomes = Outcomes::new(alloc);
+    let mut advanced = Remotes::new(alloc);
+    let mut count = terms.state.remotes.as_slice().len();
+    let pairs = remotes.as_slice();
+    for i in 0..pairs.len() {
+        let (node, commit) = &pairs[i];
+        let outcome = outcome_of(terms, count, node, reach_of(answers, found[i]));
+        outcomes.push(*node, outcome)?;
+        note(
+            &terms.state.remotes,
+            &mut advanced,
+            &mut count,
+            node,
+            commit,
+            outcome,
+        )?;
+    }
+    Ok(Remarks { outcomes, advanced })
+}
+
 /// Judges each offered remote.
 fn judge_remotes<O: Objects>(
     alloc: Global,
@@ -73,24 +117,10 @@ fn judge_remotes<O: Objects>(
     ensures keeps { KeepsObjects O.content O.beside O.places O.faults Some objects.old objects.new
         result }
 {
-    let mut known = BTreeSet::new(alloc);
-    let mut outcomes = Outcomes::new(alloc);
-    let mut advanced = Remotes::new(alloc);
-    let mut count = terms.state.remotes.as_slice().len();
-    let pairs = remotes.as_slice();
-    for (node, commit) in pairs {
-        let outcome = outcome_of(alloc, objects, terms, &mut known, count, node, commit)?;
-        outcomes.push(*node, outcome)?;
-        note(
-            &terms.state.remotes,
-            &mut advanced,
-            &mut count,
-            node,
-            commit,
-            outcome,
-        )?;
-    }
-    Ok(Remarks { outcomes, advanced })
+    let round = round_at(alloc, objects, terms, remotes, Stage::Tips)?;
+    let answers = closures(alloc, objects, &round.roots)?;
+    let remarks = conclude(alloc, terms, remotes, &round.found, &answers)?;
+    Ok(remarks)
 }
 
 /// How many of the delegates have a remote once some are replaced or added.

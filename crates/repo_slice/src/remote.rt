@@ -1,26 +1,25 @@
 // What becomes of an offered remote.
-ghost use Rattle.std.specs.Prelude.{◌≡◌, IfErr, IfOk, OnOk, Some};
+ghost use Rattle.std.specs.Prelude.{◌≡◌, ◌∷◌, [], IfErr, IfOk, OnOk, None, Ok};
 ghost use Rattle.std.specs.Option.{ForSome};
-ghost use Rattle.commit_graph.specs.Beyond.{AllClosed};
-ghost use Rattle.commit_graph.specs.Closures.{IsClosed};
+ghost use Rattle.rad_base.specs.declared.names.Oid.{Oid};
+ghost use Rattle.commit_graph.specs.Closures.{IsClosedCommit, IsClosure};
 ghost use Rattle.commit_graph.specs.Faults.{KeepsObjects};
+ghost use Rattle.commit_graph.specs.Objects.{ObjectMap};
+ghost use Rattle.commit_graph.specs.Pairs.{as_commit};
 ghost use Rattle.repo_slice.specs.Good.{line_roots};
-ghost use Rattle.repo_slice.specs.Outcomes.{IsCrowded, IsLater, IsNews, IsOutcome, IsWhole};
-ghost use Rattle.repo_slice.specs.Parts.{IsEarly, IsHalt, IsLastOutcome, IsLinesHalt};
+ghost use Rattle.repo_slice.specs.Outcomes.{IsCrowded, IsLater, IsNews, IsOutcome};
+ghost use Rattle.repo_slice.specs.Parts.{IsEarly, IsHalt, IsLastOutcome};
 ghost use Rattle.repo_slice.specs.Parts.{IsNoLater, IsNoNews, IsReachHalt, case_in, halt_fault_in};
-ghost use Rattle.commit_graph.specs.Closures.{IsClosedCommit};
+ghost use Rattle.repo_slice.specs.Rounds.{IsEarlyReach, IsReach};
 
-use crate::Outcome;
-use crate::known::closure_known;
 use crate::stop::Halt;
 use crate::terms::{Terms, is_in_scope};
+use crate::{Outcome, Stage};
 use commit_graph::answer::Closure;
-use commit_graph::{GetFault, Objects, Root, in_history};
-use git_object::Kind;
+use commit_graph::{Objects, Root, in_history};
 use rad_base::{Nid, Oid};
 use signed_refs::{Refs, signed_closed};
 use std::alloc::{AllocError, Global};
-use std::collections::BTreeSet;
 
 /// The most remotes of a repository.
 pub(crate) const LIMIT: usize = 1024;
@@ -60,45 +59,36 @@ pub(crate) fn check_news<O: Objects>(
     Ok(())
 }
 
-/// Whether a commit and all that it reaches is there and well formed. What is found closed is known
-/// from then on.
-fn check_reach<O: Objects>(
-    alloc: Global,
-    objects: &mut O,
-    known: &mut BTreeSet<Oid>,
-    commit: &Oid,
-) -> Result<(), Halt>
-    requires { ForSome (O.content objects.old) (λ m. AllClosed m known.old) }
-    ensures told { ForSome (O.content objects.old)
-        (λ m. OnOk result (IsClosedCommit m commit.now)) }
-    ensures refused { ForSome (O.content objects.old)
-        (λ m. IfErr result (IsReachHalt m commit.now)) }
+/// Whether all that a commit reaches is there and well formed, by its closure.
+fn check_reach(closure: Closure) -> Result<(), Halt>
+    ensures told { (m : ObjectMap) (commit : Oid) → IsClosure m (as_commit commit ∷ []) closure
+        → OnOk result (IsClosedCommit m commit) }
+    ensures refused { (m : ObjectMap) (commit : Oid) → IsClosure m (as_commit commit ∷ []) closure
+        → IfErr result (IsReachHalt m commit) }
     ensures early { IfErr result IsEarly }
-    ensures closed { ForSome (O.content objects.old) (λ m. AllClosed m known.new) }
-    ensures keeps { KeepsObjects O.content O.beside O.places O.faults halt_fault_in
-        objects.old objects.new result }
+    ensures met { IfErr result (λ halt. halt_fault_in halt ≡ None) }
 {
-    let root = Root {
-        oid: *commit,
-        kind: Some(Kind::Commit),
-    };
-    match closure_known(alloc, objects, known, &[root])? {
+    match closure {
         Closure::Closed => Ok(()),
         Closure::Missing(oid) => Err(Halt::Outcome(Outcome::Missing(oid))),
         Closure::BadObject(oid) => Err(Halt::Outcome(Outcome::BadObject(oid))),
     }
 }
 
-/// The refs of a remote that is news, is signed, and follows a stored one.
+/// The refs of a remote that is news, by the closure of its commit: where they are signed, and the
+/// commit follows a stored one.
 pub(crate) fn check_later<O: Objects>(
     alloc: Global,
     objects: &mut O,
     terms: &Terms<'_>,
-    known: &mut BTreeSet<Oid>,
+    closure: Closure,
     node: &Nid,
     commit: &Oid,
 ) -> Result<Refs, Halt>
-    requires { ForSome (O.content objects.old) (λ m. AllClosed m known.old) }
+    requires news { ForSome (O.content objects.old)
+        (λ m. IsNews m (case_in terms.now) node.now commit.now) }
+    requires closure { ForSome (O.content objects.old)
+        (λ m. IsClosure m (as_commit commit.now ∷ []) closure) }
     ensures told { ForSome (O.content objects.old)
         (λ m. IfOk result (IsLater m (case_in terms.now) node.now commit.now)) }
     ensures refused { ForSome (O.content objects.old)
@@ -106,12 +96,10 @@ pub(crate) fn check_later<O: Objects>(
     ensures none { ForSome (O.content objects.old)
         (λ m. IfErr result (IsNoLater m (case_in terms.now) node.now commit.now)) }
     ensures early { IfErr result IsEarly }
-    ensures closed { ForSome (O.content objects.old) (λ m. AllClosed m known.new) }
     ensures keeps { KeepsObjects O.content O.beside O.places O.faults halt_fault_in
         objects.old objects.new result }
 {
-    check_news(alloc, objects, terms, node, commit)?;
-    check_reach(alloc, objects, known, commit)?;
+    check_reach(closure)?;
     let rid = &terms.state.rid;
     let refs = signed_closed(alloc, objects, terms.keyring, rid, node, commit)?;
     let Some(stored) = terms.state.remotes.get(node) else {
@@ -125,7 +113,7 @@ pub(crate) fn check_later<O: Objects>(
 }
 
 /// What refs name, of any kind.
-fn roots_of(alloc: Global, refs: &Refs) -> Result<Vec<Root>, AllocError>
+pub(crate) fn roots_of(alloc: Global, refs: &Refs) -> Result<Vec<Root>, AllocError>
     ensures { IfOk result (λ roots. roots.items ≡ line_roots refs.now) }
 {
     refs.as_slice()
@@ -135,56 +123,6 @@ fn roots_of(alloc: Global, refs: &Refs) -> Result<Vec<Root>, AllocError>
             kind: None,
         })
         .collect(alloc)
-}
-
-/// Whether all that refs reach is there and well formed. What is found closed is known from then
-/// on.
-fn check_closed<O: Objects>(
-    alloc: Global,
-    objects: &mut O,
-    known: &mut BTreeSet<Oid>,
-    refs: &Refs,
-) -> Result<(), Halt>
-    requires { ForSome (O.content objects.old) (λ m. AllClosed m known.old) }
-    ensures told { ForSome (O.content objects.old)
-        (λ m. OnOk result (IsClosed m (line_roots refs.now))) }
-    ensures refused { ForSome (O.content objects.old)
-        (λ m. IfErr result (IsLinesHalt m refs.now)) }
-    ensures early { IfErr result IsEarly }
-    ensures closed { ForSome (O.content objects.old) (λ m. AllClosed m known.new) }
-    ensures keeps { KeepsObjects O.content O.beside O.places O.faults halt_fault_in
-        objects.old objects.new result }
-{
-    let roots = roots_of(alloc, refs)?;
-    match closure_known(alloc, objects, known, &roots)? {
-        Closure::Closed => Ok(()),
-        Closure::Missing(oid) => Err(Halt::Outcome(Outcome::Incomplete(oid))),
-        Closure::BadObject(oid) => Err(Halt::Outcome(Outcome::BadObject(oid))),
-    }
-}
-
-/// Whether a remote is later, and all that its refs reach is there and well formed.
-fn check_whole<O: Objects>(
-    alloc: Global,
-    objects: &mut O,
-    terms: &Terms<'_>,
-    known: &mut BTreeSet<Oid>,
-    node: &Nid,
-    commit: &Oid,
-) -> Result<(), Halt>
-    requires { ForSome (O.content objects.old) (λ m. AllClosed m known.old) }
-    ensures told { ForSome (O.content objects.old)
-        (λ m. OnOk result (IsWhole m (case_in terms.now) node.now commit.now)) }
-    ensures refused { ForSome (O.content objects.old)
-        (λ m. IfErr result (IsHalt m (case_in terms.now) node.now commit.now)) }
-    ensures early { IfErr result IsEarly }
-    ensures closed { ForSome (O.content objects.old) (λ m. AllClosed m known.new) }
-    ensures keeps { KeepsObjects O.content O.beside O.places O.faults halt_fault_in
-        objects.old objects.new result }
-{
-    let refs = check_later(alloc, objects, terms, known, node, commit)?;
-    check_closed(alloc, objects, known, &refs)?;
-    Ok(())
 }
 
 /// The outcome of a remote that is whole, where so many remotes stand before it.
@@ -198,28 +136,37 @@ fn last_outcome(terms: &Terms<'_>, count: usize, node: &Nid) -> Outcome
     Outcome::Advanced
 }
 
-/// The outcome of a remote, where so many remotes stand before it.
-pub(crate) fn outcome_of<O: Objects>(
-    alloc: Global,
-    objects: &mut O,
+/// The outcome of a remote that is signed and later, by the closure of what its refs name, where
+/// so many remotes stand before it.
+fn closed_outcome(terms: &Terms<'_>, count: usize, node: &Nid, closure: Closure) -> Outcome
+    ensures told { (m : ObjectMap) (commit : Oid)
+        → IsReach m (case_in terms.now) Stage.Tips (node.now, commit) (Ok closure)
+        → IsOutcome m (case_in terms.now) count node.now commit result }
+    ensures room { result ≡ Outcome.Advanced → IsCrowded (case_in terms.now) count node.now → ⊥ }
+{
+    match closure {
+        Closure::Closed => last_outcome(terms, count, node),
+        Closure::Missing(oid) => Outcome::Incomplete(oid),
+        Closure::BadObject(oid) => Outcome::BadObject(oid),
+    }
+}
+
+/// The outcome of a remote, by the closure of what its refs name, or by its outcome, where so many
+/// remotes stand before it.
+pub(crate) fn outcome_of(
     terms: &Terms<'_>,
-    known: &mut BTreeSet<Oid>,
     count: usize,
     node: &Nid,
-    commit: &Oid,
-) -> Result<Outcome, GetFault>
-    requires { ForSome (O.content objects.old) (λ m. AllClosed m known.old) }
-    ensures told { ForSome (O.content objects.old)
-        (λ m. IfOk result (IsOutcome m (case_in terms.now) count node.now commit.now)) }
-    ensures room { IfOk result (λ outcome.
-        outcome ≡ Outcome.Advanced → IsCrowded (case_in terms.now) count node.now → ⊥) }
-    ensures closed { ForSome (O.content objects.old) (λ m. AllClosed m known.new) }
-    ensures keeps { KeepsObjects O.content O.beside O.places O.faults Some objects.old objects.new
-        result }
+    reach: Result<Closure, Outcome>,
+) -> Outcome
+    ensures told { (m : ObjectMap) (commit : Oid)
+        → IsReach m (case_in terms.now) Stage.Tips (node.now, commit) reach
+        → IsOutcome m (case_in terms.now) count node.now commit result }
+    ensures room { IsEarlyReach reach → result ≡ Outcome.Advanced
+        → IsCrowded (case_in terms.now) count node.now → ⊥ }
 {
-    match check_whole(alloc, objects, terms, known, node, commit) {
-        Err(Halt::Outcome(outcome)) => Ok(outcome),
-        Err(Halt::Get(why)) => Err(why),
-        Ok(()) => Ok(last_outcome(terms, count, node)),
+    match reach {
+        Ok(closure) => closed_outcome(terms, count, node, closure),
+        Err(outcome) => outcome,
     }
 }

@@ -20,7 +20,7 @@ use crate::merging::merged;
 use crate::wanting::wants_over;
 use crate::{Batch, Entry, Judged, Scope, Stage, State, Whole};
 use canonical_head::answer::Head;
-use commit_graph::{GetFault, MemObjects};
+use commit_graph::{GetFault, MemObjects, Objects};
 use git_object::Kind;
 use keyring::Keyring;
 use rad_base::{Bytes, Nid, Nids, NoMemory, Offer, Oid, Remotes, Rid};
@@ -128,7 +128,7 @@ impl Slice {
         let Some(commit) = self.state.remotes.get(node) else {
             return Ok(None);
         };
-        let mut objects = &self.objects;
+        let mut objects = self;
         refs_said(alloc, &mut objects, &commit)
     }
 
@@ -139,7 +139,7 @@ impl Slice {
             → IfOk result (IsHeadOf (objects_of self.now) keyring.now (state_of self.now)) }
         ensures fault { IfErr result (λ why. why ≡ GetFault.NoMemory) }
     {
-        let mut objects = &self.objects;
+        let mut objects = self;
         head_over(alloc, &mut objects, &self.state, keyring)
     }
 
@@ -251,6 +251,31 @@ impl Slice {
     }
 }
 
+impl Objects for &Slice {
+    ghost use Rattle.std.specs.Prelude.{None, Some};
+    ghost use Rattle.commit_graph.specs.InMemory.{objects_are_named};
+    ghost use Rattle.repo_slice.specs.Slices.{objects_of};
+
+    ghost content = { λ slice. Some (objects_of slice.now) };
+
+    ghost faults = { λ _. 0 };
+
+    ghost looks = { λ _. 0 };
+
+    ghost Beside = { Unit {0} };
+
+    ghost beside = { λ _. tt };
+
+    ghost places = { λ _ _. None };
+
+    fn get(&mut self, oid: &Oid) -> Result<Option<(Kind, &[u8])>, GetFault> {
+        let slice: &Slice = self;
+        Ok(slice.objects.object(oid))
+    }
+
+    ghost named = { λ slice m e. objects_are_named slice.now.objects.objects m e };
+}
+
 /// Judges an offer on what the slice has, which stays: its objects were put before. The slice is
 /// good under this keyring. A whole refusal is an answer; `GetFault` is want of memory.
 pub fn judge(
@@ -268,7 +293,8 @@ pub fn judge(
     ensures stays { slice.new ≡ slice.old }
     ensures fault { IfErr result (λ why. why ≡ GetFault.NoMemory) }
 {
-    let mut objects = &slice.objects;
+    let slice: &Slice = slice;
+    let mut objects = slice;
     judge_over(alloc, &mut objects, &slice.state, offer, keyring, scope)
 }
 
@@ -289,7 +315,8 @@ pub fn wants(
     ensures stays { slice.new ≡ slice.old }
     ensures fault { IfErr result (λ why. why ≡ GetFault.NoMemory) }
 {
-    let mut objects = &slice.objects;
+    let slice: &Slice = slice;
+    let mut objects = slice;
     let state = &slice.state;
     wants_over(alloc, &mut objects, state, offer, keyring, scope, stage)
 }

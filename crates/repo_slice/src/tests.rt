@@ -4,10 +4,11 @@ mod objects;
 
 use crate::*;
 use canonical_head::answer::Head;
-use cases::{CASES, KEYRINGS, LINES};
+use cases::{CASES, KEYRINGS, LINES, WORKED as WORKED_CASES};
 use git_object::{Kind, name_of as object_name};
+use identity_doc::IdFault;
 use keyring::Keyring;
-use objects::{FIRST, SECOND, THIRD};
+use objects::{FIRST, SECOND, THIRD, WORKED};
 use rad_base::{Bytes, Nid, Nids, NoMemory, Offer, Oid, Oids, Remotes, Rid, until};
 use std::alloc::{AllocError, Global};
 use std::test::Fail;
@@ -124,6 +125,10 @@ fn third_objects() -> &'static [&'static [u8]] {
     THIRD
 }
 
+fn worked_objects() -> &'static [&'static [u8]] {
+    WORKED
+}
+
 // Makes these objects behind others.
 fn make_some(alloc: Global, made: &mut Vec<Made>, objects: &[&[u8]]) -> Result<(), Fail> {
     for object in objects {
@@ -138,6 +143,7 @@ fn make_all(alloc: Global) -> Result<Vec<Made>, Fail> {
     make_some(alloc, &mut made, first_objects())?;
     make_some(alloc, &mut made, second_objects())?;
     make_some(alloc, &mut made, third_objects())?;
+    make_some(alloc, &mut made, worked_objects())?;
     Ok(made)
 }
 
@@ -242,7 +248,8 @@ impl Scene {
     fn is_refused(&mut self, alloc: Global, said: &[u8]) -> Result<bool, Fail> {
         Ok(match (self.verdict(alloc)?, said) {
             (Err(Whole::IdForked), b"f") | (Err(Whole::IdFault(_)), b"i") => true,
-            (Err(Whole::TooFewDelegates { have, need }), [b'd', had, b'/', needed]) => {
+            (Err(Whole::IdFault(IdFault::TooFew { have, need, .. })), [b't', had, b'/', needed])
+            | (Err(Whole::TooFewDelegates { have, need }), [b'd', had, b'/', needed]) => {
                 have == number(&[*had]) && need == number(&[*needed])
             }
             _ => false,
@@ -385,15 +392,37 @@ fn all_cases() -> &'static [&'static [u8]] {
     CASES
 }
 
+// Whether all is as the words of a case say.
+fn is_judged(alloc: Global, made: &[Made], case: &[u8]) -> Result<bool, Fail> {
+    let mut scene = Scene::new(alloc)?;
+    for word in case.split(|byte| *byte == b' ') {
+        if !follow(alloc, made, &mut scene, word)? {
+            return Ok(false);
+        }
+    }
+    Ok(true)
+}
+
 #[test]
 fn offers_are_judged(rt: HostRuntime) -> Result<(), Fail> {
     let alloc = rt.alloc();
     let made = make_all(alloc)?;
     for case in all_cases() {
-        let mut scene = Scene::new(alloc)?;
-        for word in case.split(|byte| *byte == b' ') {
-            assert!(rt; follow(alloc, &made, &mut scene, word)?);
-        }
+        assert!(rt; is_judged(alloc, &made, case)?);
+    }
+    Ok(())
+}
+
+fn worked_cases() -> &'static [&'static [u8]] {
+    WORKED_CASES
+}
+
+#[test]
+fn signatures_decide_over_identities_and_refs(rt: HostRuntime) -> Result<(), Fail> {
+    let alloc = rt.alloc();
+    let made = make_all(alloc)?;
+    for case in worked_cases() {
+        assert!(rt; is_judged(alloc, &made, case)?);
     }
     Ok(())
 }

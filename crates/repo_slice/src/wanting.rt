@@ -1,22 +1,25 @@
 // Which of the offered remotes are asked for.
-ghost use Rattle.std.specs.Prelude.{◌≡◌, ◌∷◌, ◌++◌, [], if◌then◌else◌, IfOk, IsTrue, OnOk, ◌↔◌, Some};
+ghost use Rattle.std.specs.Prelude.{◌≡◌, ◌∷◌, ◌++◌, [], if◌then◌else◌, length, List};
+ghost use Rattle.std.specs.Prelude.{IfOk, OnOk, Some};
 ghost use Rattle.std.specs.Option.{ForSome};
-ghost use Rattle.commit_graph.specs.Beyond.{AllClosed};
 ghost use Rattle.commit_graph.specs.Faults.{KeepsObjects};
+ghost use Rattle.commit_graph.specs.Objects.{ObjectMap};
+ghost use Rattle.commit_graph.specs.declared.root.Root.{Root};
 ghost use Rattle.repo_slice.specs.Good.{IsGood};
-ghost use Rattle.repo_slice.specs.Parts.{case_in};
-ghost use Rattle.repo_slice.specs.Wanted.{AreAmong, AreWanted, IsWanted, IsWantedList};
+ghost use Rattle.repo_slice.specs.Outcomes.{Case};
+ghost use Rattle.repo_slice.specs.Rounds.{AreProgress};
+ghost use Rattle.repo_slice.specs.Wanted.{AreAmong, AreWanted, IsWanted, IsWantedList, Picks};
 
 use crate::identity::judge_id;
-use crate::remote::{check_later, check_news};
-use crate::stop::{Halt, Stop};
+use crate::progress::{Progress, is_waiting};
+use crate::rounds::round_at;
+use crate::stop::Stop;
 use crate::terms::Terms;
 use crate::{Scope, State};
 use commit_graph::{GetFault, Objects};
 use keyring::Keyring;
-use rad_base::{Nid, Nids, NoMemory, Offer, Oid};
+use rad_base::{Nid, Nids, NoMemory, Offer, Remotes};
 use std::alloc::Global;
-use std::collections::BTreeSet;
 
 /// What a job asks for next.
 #[derive(Clone, Copy, Debug, PartialEq, Eq)]
@@ -27,37 +30,6 @@ pub enum Stage {
     Tips,
 }
 
-/// Whether an offered remote is asked for.
-fn is_wanted<O: Objects>(
-    alloc: Global,
-    objects: &mut O,
-    terms: &Terms<'_>,
-    known: &mut BTreeSet<Oid>,
-    stage: Stage,
-    node: &Nid,
-    commit: &Oid,
-) -> Result<bool, GetFault>
-    requires { ForSome (O.content objects.old) (λ m. AllClosed m known.old) }
-    ensures told { ForSome (O.content objects.old) (λ m. IfOk result (λ is.
-        IsTrue is ↔ IsWanted m (case_in terms.now) stage node.now commit.now)) }
-    ensures closed { ForSome (O.content objects.old) (λ m. AllClosed m known.new) }
-    ensures keeps { KeepsObjects O.content O.beside O.places O.faults Some objects.old objects.new
-        result }
-{
-    match stage {
-        Stage::Sigs => match check_news(alloc, objects, terms, node, commit) {
-            Ok(()) => Ok(true),
-            Err(Halt::Outcome(_)) => Ok(false),
-            Err(Halt::Get(why)) => Err(why),
-        },
-        Stage::Tips => match check_later(alloc, objects, terms, known, node, commit) {
-            Ok(_refs) => Ok(true),
-            Err(Halt::Outcome(_)) => Ok(false),
-            Err(Halt::Get(why)) => Err(why),
-        },
-    }
-}
-
 // Adds a node, if it is asked for.
 fn add(nodes: &mut Nids, node: &Nid, is: bool) -> Result<(), NoMemory>
     ensures { OnOk result (nodes.new ≡ (if is then nodes.old ++ node.now ∷ [] else nodes.old)) }
@@ -66,6 +38,22 @@ fn add(nodes: &mut Nids, node: &Nid, is: bool) -> Result<(), NoMemory>
         nodes.push(*node)?;
     }
     Ok(())
+}
+
+/// The nodes of the remotes that wait.
+fn waiting(alloc: Global, remotes: &Remotes, found: &[Progress]) -> Result<Nids, NoMemory>
+    requires { length found.now ≡ length remotes.now }
+    ensures told { (m : ObjectMap) (c : Case) (stage : Stage) (roots : List Root)
+        → AreProgress m c stage roots remotes.now found.now
+        → IfOk result (Picks (IsWanted m c stage) remotes.now) }
+    ensures among { IfOk result (AreAmong remotes.now) }
+{
+    let mut nodes = Nids::new(alloc);
+    let pairs = remotes.as_slice();
+    for i in 0..pairs.len() {
+        add(&mut nodes, &pairs[i].0, is_waiting(found[i]))?;
+    }
+    Ok(nodes)
 }
 
 /// The nodes of the offered remotes that are asked for.
@@ -95,12 +83,7 @@ pub(crate) fn wants_over<O: Objects>(
         doc: &identity.doc,
         scope,
     };
-    let mut known = BTreeSet::new(alloc);
-    let mut nodes = Nids::new(alloc);
-    let pairs = offer.remotes.as_slice();
-    for (node, commit) in pairs {
-        let wanted = is_wanted(alloc, objects, &terms, &mut known, stage, node, commit)?;
-        add(&mut nodes, node, wanted)?;
-    }
+    let round = round_at(alloc, objects, &terms, &offer.remotes, stage)?;
+    let nodes = waiting(alloc, &offer.remotes, &round.found)?;
     Ok(nodes)
 }

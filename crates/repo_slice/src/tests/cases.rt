@@ -41,6 +41,12 @@ pub(crate) const LINES: &[&[u8]] = &[
     b"accept &32 020eb061ca21a26198e3a5fb29ec01f58ac1bd0ad0e0dfc5a19f3b0171050f60 &32&32",
     b"accept &43 020eb061ca21a26198e3a5fb29ec01f58ac1bd0ad0e0dfc5a19f3b0171050f60 &43&43",
     b"accept &65 57c437b24f1989af9867ab1f93fb5cd0bddc011a4094840da340c1f0e5849586 &65&65",
+    b"accept &01 c4dfcc0d2a61fff7f0c0187424bfd59875e8ad5ae07be64e124ae0451ab691ed &01&01",
+    b"accept &01 e3b0c44298fc1c149afbf4c8996fb92427ae41e4649b934ca495991b7852b855 &01&01",
+    b"accept &02 c9b7995fe0d64c158d6bbb6638ba729650867d2eff7c091f97bdf43f7e10a41a &01&01",
+    b"accept &03 cf3e8756289e464784255802174f0d11949bc0bc4191ee0efa5bdcd44e6dcd68 &01&01",
+    b"accept &04 17aa9aa2ec5400e9366b6d08f4d460cbd839381d1758c3dbeffcc78717a49040 &01&01",
+    b"accept &05 ba7b05e2d7049e252fe84d0c9d0f298d1f057f4a99a0b20e8f7eabf8a6565538 &01&01",
 ];
 
 /// Keyrings, as numbers of lines.
@@ -63,6 +69,10 @@ pub(crate) const KEYRINGS: &[&[usize]] = &[
     &[12, 26, 27, 28, 29, 30, 31],
     &[12, 26, 27, 28, 29, 30, 31, 32, 33, 34],
     &[12, 26, 27, 28, 35, 36, 37, 38],
+    &[12, 26, 27, 28, 29, 30],
+    &[0, 39],
+    &[40],
+    &[0, 41, 42, 43, 44],
 ];
 
 /// What is done and said, word by word. An object is a number, 999 for a name without an object; a
@@ -419,4 +429,20 @@ pub(crate) const CASES: &[&[u8]] = &[
     +194 +195 s t wd1/2 o197 r21181 r32184 r43180 r54183 r65200 Fee s65 +200 +7 +199 +198 t65 \
     ja197 x21s x32x x43x x54x x65a @6 o176 r21181 r32184 r43180 r54183 Fee s t jo197 x21s \
     x32x x43x x54x @6",
+];
+
+/// Offers that were worked out by hand, in the same words: a change of the document that two and
+/// then three of four delegates signed; one that the only delegate did not sign, and then did; a
+/// remote without refs; and refs out of order, with one name twice, of the signed refs themselves,
+/// and with digits in upper case, each of them signed.
+pub(crate) const WORKED: &[&[u8]] = &[
+    b"k18 n173 o176 r21181 r32184 r43180 r54183 * +173 +176 +175 +174 s21324354 +177 +178 +180 +98 \
+    +158 +181 +182 +20 +93 +183 +184 +179 +89 t21324354 +17 +11 +13 +19 +6 +18 +4 +12 +5 jf176 \
+    x21a x32a x43a x54a @19 o189 r21181 r32184 r43180 r54183 +185 +186 +189 +187 +188 wt2/3 k15 \
+    ja189 x21s x32s x43s x54s @19",
+    b"k0 n0 o3 r0110 * +1 +3 +2 +0 +10 +7 +9 +8 +6 +4 +5 jf3 x01a @6 o205 r0110 +201 +202 +203 \
+    +204 +205 wt0/1 k19 ja205 x01s @6",
+    b"k20 n0 o3 r01208 * +1 +3 +2 +0 s01 +206 +207 +8 +208 t01 jf3 x01a",
+    b"k21 n0 o3 r0110 r02211 r03214 r04217 r05220 * +1 +3 +2 +0 +10 +7 +9 +8 +6 +4 +5 +209 +210 \
+    +211 +212 +213 +214 +215 +216 +217 +218 +219 +220 t01 jf3 x01a x02g x03g x04g x05g @6",
 ];

@@ -234,3 +234,28 @@ pub(crate) const THIRD: &[&[u8]] = &[
     b"2100644 refs\0%007100644 signature\0%198",
     b"1tree #199\nauthor a <a@b> 0 +0000\ncommitter a <a@b> 0 +0000\n\nsigrefs\n",
 ];
+
+/// Objects of offers that were worked out by hand.
+pub(crate) const WORKED: &[&[u8]] = &[
+    b"3{\"delegates\":[\"did:key:fed&0101\"],\"payload\":{\"xyz.radicle.project\":{\"defaultBranc\
+    h\":\"master\",\"description\":\"new\",\"name\":\"gen\"}},\"threshold\":1}",
+    b"3&01 &01&01\n",
+    b"2100644 radicle.json\0%201100644 signatures\0%202",
+    b"240000 embeds\0%203",
+    b"1tree #204\nparent #003\nauthor a <a@b> 0 +0000\ncommitter a <a@b> 0 +0000\n\nid\n",
+    b"3",
+    b"2100644 refs\0%206100644 signature\0%008",
+    b"1tree #207\nauthor a <a@b> 0 +0000\ncommitter a <a@b> 0 +0000\n\nsigrefs\n",
+    b"3#006 refs/heads/b\n#006 refs/heads/a\n",
+    b"2100644 refs\0%209100644 signature\0%008",
+    b"1tree #210\nauthor a <a@b> 0 +0000\ncommitter a <a@b> 0 +0000\n\nsigrefs\n",
+    b"3#006 refs/heads/master\n#006 refs/heads/master\n",
+    b"2100644 refs\0%212100644 signature\0%008",
+    b"1tree #213\nauthor a <a@b> 0 +0000\ncommitter a <a@b> 0 +0000\n\nsigrefs\n",
+    b"3#006 refs/rad/sigrefs\n",
+    b"2100644 refs\0%215100644 signature\0%008",
+    b"1tree #216\nauthor a <a@b> 0 +0000\ncommitter a <a@b> 0 +0000\n\nsigrefs\n",
+    b"3B1FF3DD5533F3275A83636B43D14C1D29C4410A1 refs/heads/master\n",
+    b"2100644 refs\0%218100644 signature\0%008",
+    b"1tree #219\nauthor a <a@b> 0 +0000\ncommitter a <a@b> 0 +0000\n\nsigrefs\n",
+];

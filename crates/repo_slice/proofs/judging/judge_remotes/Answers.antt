@@ -1,53 +1,19 @@
-use Rattle.std.proofs.Common.{◌≡◌, ℕ, ◌+◌, ◌++◌, ◌∷◌, [], List, length, get_or, take, sym, ap, subst, ◌∙◌, arith, length-append}
-use Rattle.std.proofs.lemmas.List.{take_more}
-use Rattle.std.proofs.lemmas.Option.{slice_get-get_or}
-use Rattle.rad_base.specs.declared.names.Nid.{Nid}
-use Rattle.rad_base.specs.declared.names.Oid.{Oid}
-use Rattle.rad_base.specs.Order.{IsRising}
-use Rattle.repo_slice.specs.Outcomes.{IsOutcome, count_after, if_advanced}
+use Rattle.std.proofs.Common.{List, sym, subst, ◌∙◌}
+use Rattle.commit_graph.specs.declared.answer.Closure.{Closure}
+use Rattle.commit_graph.specs.declared.root.Root.{Root}
+use Rattle.commit_graph.specs.Many.{AreClosures}
+use Rattle.repo_slice.specs.declared.progress.Progress.{Progress}
+use Rattle.repo_slice.specs.declared.wanting.Stage.TheVariants.{Tips}
 use Rattle.repo_slice.specs.Parts.{case_in}
-use Rattle.repo_slice.proofs.Turns.{advanced_above, advanced_push, count_push, outcomes_push}
+use Rattle.repo_slice.specs.Rounds.{AreProgress}
 use Rattle.repo_slice.proofs.judging.judge_remotes.Goals as goal
 
-no_remote : Nid × Oid
-no_remote = (record { 0 = [] }, record { 0 = [] })
-
-pub note-requires-clause-above : goal.note-requires-clause-above
-unfolding no_remote
-note-requires-clause-above g c =
-    let pairs = c.as_slice-pairs.result.now in
-    let i = c.loop-node.node-index in
-    let rising : IsRising pairs = rw c.as_slice-pairs.ensures.items c.as_slice-pairs.ensures.rising in
-    advanced_above pairs c.loop-node.outcomes c.loop-node.advanced i (get_or pairs i no_remote).0 (get_or pairs i no_remote).1 rising
-    (slice_get-get_or pairs i no_remote (omega arith)) c.loop-node.invariant.advanced
-
-pub loop-node-preserved : goal.loop-node-preserved
-unfolding no_remote
-loop-node-preserved g c =
-    let pairs = c.as_slice-pairs.result.now in
-    let i = c.loop-node.node-index in
-    let stored = c.args.terms.now.state.now.remotes in
-    let p = get_or pairs i no_remote in
-    let outcome = c.in_ok-outcome.outcome in
-    let more : take (i + 1) pairs ≡ take i pairs ++ p ∷ [] = take_more pairs i no_remote (omega arith) in
-    let added : c.push.new.self ≡ c.loop-node.outcomes ++ (p.0, outcome) ∷ [] = c.in_ok-push.ensures.ok in
-    let inv = c.loop-node.invariant in
-    record {
-      kept = c.in_ok-outcome.ensures.keeps.content ∙ inv.kept;
-      beside = c.in_ok-outcome.ensures.keeps.beside ∙ inv.beside;
-      still = c.in_ok-outcome.ensures.keeps.cause ∙ inv.still;
-      closed = λ m e. c.in_ok-outcome.ensures.closed m (inv.kept ∙ e);
-      told = λ m e.
-          let terms = case_in c.args.terms.now in
-          rw (more, added)
-          (outcomes_push m terms (take i pairs) c.loop-node.outcomes (length stored) p outcome (inv.told m e)
-          (subst (λ (n : ℕ). IsOutcome m terms n p.0 p.1 outcome) inv.counted (c.in_ok-outcome.ensures.told m (inv.kept ∙ e))));
-      long = rw (more, added) (omega (arith, inv.long, length-append (take i pairs) (p ∷ []), length-append c.loop-node.outcomes ((p.0, outcome) ∷ [])));
-      counted = rw (more, added)
-          (c.in_ok-note.ensures.counted ∙ ap (λ (n : ℕ). count_after stored n p.0 outcome) inv.counted
-          ∙ sym (count_push stored (take i pairs) c.loop-node.outcomes (length stored) p (p.0, outcome) inv.long));
-      few = c.in_ok-note.ensures.few;
-      advanced = rw (more, added)
-          (c.in_ok-note.ensures.advanced ∙ ap (λ (l : List (Nid × Oid)). l ++ if_advanced outcome p []) inv.advanced
-          ∙ sym (advanced_push (take i pairs) c.loop-node.outcomes p (p.0, outcome) inv.long));
-    }
+pub returns-clause-told : goal.returns-clause-told
+returns-clause-told g c = λ m e.
+    let roots = c.in_ok-round.round.roots.items in
+    let answers = c.in_ok-answers.answers.items in
+    let answered : AreClosures m roots answers =
+    subst (λ (l : List Root). AreClosures m l answers) c.deref.ensures.value (c.in_ok-answers.ensures.told m (c.in_ok-round.ensures.keeps.content ∙ e)) in
+    c.in_ok-remarks.ensures.told m roots (subst (λ (l : List Closure). AreClosures m roots l) (sym c.deref-3.ensures.value) answered)
+    (subst (λ (l : List Progress). AreProgress m (case_in c.args.terms.now) Tips roots c.args.remotes.now l) (sym c.deref-2.ensures.value)
+    (c.in_ok-round.ensures.told m e))
