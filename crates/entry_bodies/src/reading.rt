@@ -6,9 +6,7 @@ ghost use Rattle.entry_bodies.specs.Readers.{Says, SaysNone};
 
 use crate::Body;
 use crate::lists::objects_in;
-use rad_base::{
-    NoMemory, Offer, Rid, four_bytes_front, oid_front, remotes_in, two_bytes_front,
-};
+use rad_base::{NoMemory, Offer, Rid, four_bytes_front, oid_front, remotes_in, two_bytes_front};
 use std::alloc::Global;
 
 /// The most objects of a put.

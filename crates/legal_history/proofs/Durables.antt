@@ -88,12 +88,12 @@ durable_from keyring before (claim rid caller ∷ items) legal =
 durable_from keyring before (put rid batch caller ∷ items) legal = (
   lawful_durable keyring before (put rid batch caller) tt legal.0,
   subst (λ (l : List Item). LegalFrom keyring l (durable_part items)) (durable_more before (put rid batch caller) tt)
-  (durable_from keyring (before ++ put rid batch caller ∷ []) items legal.1),
+      (durable_from keyring (before ++ put rid batch caller ∷ []) items legal.1),
 )
 durable_from keyring before (install rid id remotes caller ∷ items) legal = (
   lawful_durable keyring before (install rid id remotes caller) tt legal.0,
   subst (λ (l : List Item). LegalFrom keyring l (durable_part items)) (durable_more before (install rid id remotes caller) tt)
-  (durable_from keyring (before ++ install rid id remotes caller ∷ []) items legal.1),
+      (durable_from keyring (before ++ install rid id remotes caller ∷ []) items legal.1),
 )
 durable_from keyring before (missed of left caller ∷ items) legal =
     subst (λ (l : List Item). LegalFrom keyring l (durable_part items)) (durable-append before (missed of left caller ∷ []) ∙ append-nil (durable_part before))
