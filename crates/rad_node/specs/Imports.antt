@@ -1,5 +1,6 @@
 -- What an import says and leaves by its status.
 use Rattle.std.specs.Prelude.{◌≡◌, ℕ, List, [], Option, String, IfSome}
+use Rattle.rad_base.specs.Faults.{Rose}
 use Rattle.rad_node.specs.Entries.{form_entries}
 use Rattle.rad_node.specs.Form.{FormOne, IsFormOne}
 use Rattle.rad_node.specs.Report.{report_of}
@@ -9,6 +10,10 @@ use Rattle.rad_node.specs.Words.{IsImport}
 use Rattle.rad_node.specs.declared.status.Status.{Status}
 use Rattle.rad_node.specs.declared.status.Status.TheVariants.{Ok, ReadFault, WriteFault, DiskFault, NoMemory, Unbuilt}
 use Rattle.rad_node.specs.declared.status.WhichSource.TheVariants.{Keys, Rules, Input}
+
+-- the count of faults rose between the two
+abbrev pub FaultsRose : {X : Type 0} → (X → ℕ) → X → X → Type 0
+FaultsRose faults old new = Rose (faults old) (faults new)
 
 -- a fault is answered only where its cause is there: a fault of the keyring's source, of the bundle's, of the
 -- disk, of the sink

@@ -1,9 +1,8 @@
 // The import of a bundle into a store without entries.
 ghost use Rattle.std.specs.Prelude.{◌≡◌, ◌≤◌, length, IfSome};
 ghost use Rattle.std.specs.Io.KnownBytes.{Appends, Keeps};
-ghost use Rattle.rad_base.specs.Faults.{Rose};
 ghost use Rattle.rad_node.specs.Form.{FormOne, IsFormOne};
-ghost use Rattle.rad_node.specs.Imports.{Entered, HasEntered, IsCaused, IsEnd};
+ghost use Rattle.rad_node.specs.Imports.{Entered, FaultsRose, HasEntered, IsCaused, IsEnd};
 ghost use Rattle.rad_node.specs.Imports.{IsSilent, IsUntouched};
 ghost use Rattle.rad_node.specs.Store.{Grows};
 ghost use Rattle.rad_node.specs.Transfers.{AppendsFront};
@@ -29,9 +28,9 @@ pub(crate) fn import<D: Disk, I: Source, W: Sink>(
     requires keyring_size { length keyring.now ≤ 65536 }
     ensures stays { D.loan journal.new.disk ≡ D.loan journal.old.disk }
     ensures later { D.faults journal.old.disk ≤ D.faults journal.new.disk }
-    ensures cause { IsCaused result ⊥ (Rose (I.faults input.old) (I.faults input.new))
-        (Rose (D.faults journal.old.disk) (D.faults journal.new.disk))
-        (Rose (W.faults out.old) (W.faults out.new)) }
+    ensures cause { IsCaused result ⊥ (FaultsRose I.faults input.old input.new)
+        (FaultsRose D.faults journal.old.disk journal.new.disk)
+        (FaultsRose W.faults out.old out.new) }
     ensures kept { IsUntouched result → journal.new ≡ journal.old }
     ensures silent { IsSilent result → Keeps (W.given out.old) (W.given out.new) }
     ensures unbuilt { result ≡ Status.Unbuilt → IfSome (I.left input.old) (λ bytes.
@@ -64,8 +63,8 @@ fn enter<D: Disk, W: Sink>(journal: &mut Journal<D>, work: &Work, out: &mut W) -
     ensures later { D.faults journal.old.disk ≤ D.faults journal.new.disk }
     ensures end { IsEnd result }
     ensures cause { IsCaused result ⊥ ⊥
-        (Rose (D.faults journal.old.disk) (D.faults journal.new.disk))
-        (Rose (W.faults out.old) (W.faults out.new)) }
+        (FaultsRose D.faults journal.old.disk journal.new.disk)
+        (FaultsRose W.faults out.old out.new) }
     ensures grows { HasEntered result
         → Grows D.reads_as D.images journal.old journal.new work.now.entries.items }
     ensures silent { IsSilent result → Keeps (W.given out.old) (W.given out.new) }

@@ -1,10 +1,10 @@
 // The run of a command over what it is handed.
 ghost use Rattle.std.specs.Prelude.{◌≡◌, [], IfSome};
 ghost use Rattle.std.specs.Io.KnownBytes.{Appends, Keeps};
-ghost use Rattle.rad_base.specs.Faults.{Rose};
 ghost use Rattle.rad_outside.specs.Disks.{Within};
 ghost use Rattle.ref_journal.specs.Moments.{HasBodies};
-ghost use Rattle.rad_node.specs.Imports.{Imported, IsCaused, IsNoForm, IsSilent, IsUntouched};
+ghost use Rattle.rad_node.specs.Imports.{FaultsRose, Imported, IsCaused, IsNoForm};
+ghost use Rattle.rad_node.specs.Imports.{IsSilent, IsUntouched};
 ghost use Rattle.rad_node.specs.Transfers.{AppendsFront};
 ghost use Rattle.rad_node.specs.Words.{IsImport};
 
@@ -42,10 +42,8 @@ pub fn run_local<D: Disk, S: Source, I: Source, W: Sink>(
     out: &mut W,
 ) -> Status
     ensures cause { IsCaused result
-        (Rose (S.faults keys.old) (S.faults keys.new))
-        (Rose (I.faults input.old) (I.faults input.new))
-        (Rose (D.faults disk.old) (D.faults disk.new))
-        (Rose (W.faults out.old) (W.faults out.new)) }
+        (FaultsRose S.faults keys.old keys.new) (FaultsRose I.faults input.old input.new)
+        (FaultsRose D.faults disk.old disk.new) (FaultsRose W.faults out.old out.new) }
     ensures ok { result ≡ Status.Ok → Imported words.now
         (S.left keys.old) (I.left input.old) (D.reads_as disk.old) (D.images disk.new)
         (Appends (W.given out.old) (W.given out.new)) }
