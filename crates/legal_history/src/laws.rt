@@ -1,15 +1,14 @@
 // Laws of legal histories.
-ghost use Rattle.std.specs.Prelude.{◌≡◌, List, [], None, Some};
+ghost use Rattle.std.specs.Prelude.{◌≡◌, List};
 ghost use Rattle.rad_base.specs.declared.names.Nid.{Nid};
 ghost use Rattle.rad_base.specs.declared.names.Rid.{Rid};
 ghost use Rattle.keyring.specs.Contents.{Contents};
-ghost use Rattle.repo_entries.specs.Items.{Item, left_of};
-ghost use Rattle.repo_entries.specs.declared.entry.Left.TheVariants.{Nothing};
+ghost use Rattle.repo_entries.specs.Items.{Item};
 ghost use Rattle.repo_slice.specs.Good.{IsGood};
 ghost use Rattle.legal_history.specs.Replays.{replay, replayed_state};
 ghost use Rattle.legal_history.specs.Durable.{durable_part};
 ghost use Rattle.legal_history.specs.Histories.{Legal};
-ghost use Rattle.legal_history.specs.Cores.{Core, Event, MayReopenAs, Runs, noted_by};
+ghost use Rattle.legal_history.specs.Laws.{DoubtIsNamed, EventsKeepLegal, StopsLeaveLegal};
 ghost use Rattle.legal_history.specs.Advancing.{AdvanceAll, commits_of};
 
 /// The durable part of a legal history is legal, and has the same replay.
@@ -38,14 +37,7 @@ pub fn remotes_only_advance()
 /// may leave. What is in doubt is what the last entry names of a call that left something, and no
 /// durable entry stands behind it.
 pub fn events_keep_histories_legal()
-    ensures legal { (keyring : Contents) (first : List Item) (events : List Event) (core : Core)
-        → Legal keyring first → Runs keyring (record { items = first; doubt = None }) events core
-        → Legal keyring core.items }
-    ensures reopened { (keyring : Contents) (first : List Item) (events : List Event) (core : Core)
-        (items : List Item) → Legal keyring first
-        → Runs keyring (record { items = first; doubt = None }) events core
-        → MayReopenAs core items → Legal keyring items }
-    ensures named { (keyring : Contents) (first : List Item) (events : List Event) (core : Core)
-        (item : Item) → Runs keyring (record { items = first; doubt = None }) events core
-        → core.doubt ≡ Some item → noted_by Nothing core.items ≡ left_of item }
+    ensures legal { EventsKeepLegal }
+    ensures reopened { StopsLeaveLegal }
+    ensures named { DoubtIsNamed }
 {}
