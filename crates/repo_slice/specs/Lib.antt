@@ -1,6 +1,7 @@
 pub mod Good
 pub mod Heads
 pub mod Keeps
+pub mod Laws
 pub mod MemKeeps
 pub mod Outcomes
 pub mod Parts

@@ -1,20 +1,17 @@
 // What holds of slices and verdicts by the definitions alone.
-ghost use Rattle.std.specs.Prelude.{◌≡◌, ℕ, List, Some, Contains};
+ghost use Rattle.std.specs.Prelude.{◌≡◌, ℕ, List};
 ghost use Rattle.rad_base.specs.declared.names.Nid.{Nid};
 ghost use Rattle.rad_base.specs.declared.names.Oid.{Oid};
-ghost use Rattle.rad_base.specs.declared.offer.Offer.{Offer};
 ghost use Rattle.keyring.specs.Contents.{Contents};
-ghost use Rattle.repo_slice.specs.Good.{Advances, IsGood};
+ghost use Rattle.repo_slice.specs.Good.{IsGood};
+ghost use Rattle.repo_slice.specs.Laws.{JudgedIsAllowed, JudgedIsNotRefused, NextIsGood, OneJudging};
+ghost use Rattle.repo_slice.specs.Laws.{ReplacedAdvance};
 ghost use Rattle.commit_graph.specs.Objects.{Grows, ObjectMap};
 ghost use Rattle.repo_slice.specs.Outcomes.{AreOutcomes, Case};
-ghost use Rattle.rad_base.specs.Order.{IsRising, commit_of};
+ghost use Rattle.rad_base.specs.Order.{IsRising};
 ghost use Rattle.repo_slice.specs.Standing.{Replaces, replaced};
-ghost use Rattle.repo_slice.specs.Verdicts.{Allows, IsJudged, IsNextState, IsRefusedWhole};
 ghost use Rattle.repo_slice.specs.declared.outcomes.Outcome.{Outcome};
-ghost use Rattle.repo_slice.specs.declared.scope.Scope.{Scope};
 ghost use Rattle.repo_slice.specs.declared.state.State.{State};
-ghost use Rattle.repo_slice.specs.declared.verdict.Judged.{Judged};
-ghost use Rattle.repo_entries.specs.declared.whole.Whole.{Whole};
 
 /// Objects that are added and never replaced keep a good slice good.
 pub fn put_keeps_good()
@@ -24,15 +21,8 @@ pub fn put_keeps_good()
 
 /// From a good slice the next one is good, and each remote that is replaced advances.
 pub fn next_is_good()
-    ensures good { (objects : ObjectMap) (keyring : Contents) (state next : State) (offer : Offer)
-        (scope : Scope) (judged : Judged) → IsGood objects keyring state
-        → IsJudged objects keyring state offer scope judged → IsNextState state judged next
-        → IsGood objects keyring next }
-    ensures advances { (objects : ObjectMap) (keyring : Contents) (state : State) (offer : Offer)
-        (scope : Scope) (judged : Judged) (node : Nid) (old new : Oid)
-        → IsJudged objects keyring state offer scope judged
-        → commit_of state.remotes node ≡ Some old → Contains judged.advanced (node, new)
-        → Advances objects old new }
+    ensures good { NextIsGood }
+    ensures advances { ReplacedAdvance }
 {}
 
 /// Offered remotes have one list of outcomes.
@@ -44,21 +34,15 @@ pub fn one_list_of_outcomes()
 
 /// An offer is judged in one way, and is then not refused whole.
 pub fn one_verdict()
-    ensures one { (objects : ObjectMap) (keyring : Contents) (state : State) (offer : Offer)
-        (scope : Scope) (a b : Judged) → IsJudged objects keyring state offer scope a
-        → IsJudged objects keyring state offer scope b → a ≡ b }
-    ensures never_both { (objects : ObjectMap) (keyring : Contents) (state : State) (offer : Offer)
-        (scope : Scope) (a : Judged) (why : Whole) → IsJudged objects keyring state offer scope a
-        → IsRefusedWhole objects keyring state offer scope why → ⊥ }
+    ensures one { OneJudging }
+    ensures never_both { JudgedIsNotRefused }
 {}
 
 /// What was judged under some scope and not refused whole is allowed again with every scope, as the
 /// next identity and the remotes that advanced: it is refused nothing, does not leave another
 /// identity, and advances the same remotes.
 pub fn judged_is_allowed()
-    ensures { (objects : ObjectMap) (keyring : Contents) (state : State) (offer : Offer)
-        (scope : Scope) (judged : Judged) → IsJudged objects keyring state offer scope judged
-        → Allows objects keyring state judged.next_id judged.advanced }
+    ensures { JudgedIsAllowed }
 {}
 
 /// Of rising remotes the one list with exactly some rising ones replaced or added is `replaced`.
