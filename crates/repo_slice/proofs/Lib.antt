@@ -1,3 +1,4 @@
+pub mod FollowedNodes
 pub mod GrowingSlices
 pub mod Halts
 pub mod Identities

@@ -1,5 +1,8 @@
 -- What becomes of offered remotes: for each, the first outcome that applies.
-use Rattle.std.specs.Prelude.{◌≡◌, ℕ, ◌+◌, ◌⊎◌, if◌then◌else◌, List, [], ◌∷◌, Contains, None, Some}
+use Rattle.std.specs.Prelude.{Bool, false, ◌≡◌, ℕ, ◌+◌, ◌⊎◌, if◌then◌else◌, List, [], ◌∷◌, Contains, None, Some}
+use Rattle.std.specs.BTreeSet.{BTreeSet, contains}
+use Rattle.std.specs.Ordering.{eq_by_cmp}
+use Rattle.std.specs.List.{list_any}
 use Rattle.std.specs.Option.{is_some}
 use Rattle.rad_base.specs.declared.names.Nid.{Nid}
 use Rattle.rad_base.specs.declared.names.Oid.{Oid}
@@ -19,7 +22,7 @@ use Rattle.repo_slice.specs.declared.outcomes.Outcome.TheVariants.{OutOfScope, S
 use Rattle.repo_slice.specs.declared.scope.Scope.{Scope}
 use Rattle.repo_slice.specs.declared.scope.Scope.TheVariants.{All, Followed}
 use Rattle.repo_slice.specs.Good.{line_roots}
-use Rattle.rad_base.specs.Order.{commit_of}
+use Rattle.rad_base.specs.Order.{commit_of, nid_cmp}
 
 -- what offered remotes are judged by, beside the objects
 pub record Case : Type 0 where
@@ -33,6 +36,15 @@ pub record Case : Type 0 where
 abbrev pub IsInScope : Scope → List Nid → Nid → Type 0
 IsInScope All delegates node = Unit {0}
 IsInScope (Followed nodes) delegates node = Contains delegates node ⊎ Contains nodes node
+
+-- the node is followed, where not all are wanted
+abbrev pub is_followed : Scope → Nid → Bool
+is_followed All node = false
+is_followed (Followed nodes) node = list_any (eq_by_cmp nid_cmp node) nodes
+
+-- the set has exactly the nodes that are followed
+abbrev pub AreFollowed : Scope → BTreeSet Nid → Type 0
+AreFollowed scope set = (node : Nid) → contains nid_cmp set node ≡ is_followed scope node
 
 -- the same, by the delegates of the document
 abbrev pub IsWatched : Case → Nid → Type 0

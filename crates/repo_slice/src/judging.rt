@@ -20,7 +20,7 @@ use crate::progress::{Progress, reach_of};
 use crate::remote::outcome_of;
 use crate::rounds::round_at;
 use crate::stop::Stop;
-use crate::terms::Terms;
+use crate::terms::{Terms, followed_of};
 use crate::{Judged, Outcome, Outcomes, Scope, Stage, State, Whole};
 use commit_graph::answer::Closure;
 use commit_graph::{GetFault, Objects, closures};
@@ -155,11 +155,13 @@ pub(crate) fn judge_over<O: Objects>(
         Err(Stop::Whole(why)) => return Ok(Err(why)),
         Err(Stop::Get(why)) => return Err(why),
     };
+    let followed = followed_of(alloc, scope)?;
     let terms = Terms {
         state,
         keyring,
         doc: &identity.doc,
         scope,
+        followed: &followed,
     };
     let found = judge_remotes(alloc, objects, &terms, &offer.remotes)?;
     let delegates = identity.doc.delegates.as_slice();

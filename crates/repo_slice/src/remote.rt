@@ -43,7 +43,7 @@ pub(crate) fn check_news<O: Objects>(
     ensures keeps { KeepsObjects O.content O.beside O.places O.faults halt_fault_in
         objects.old objects.new result }
 {
-    if !is_in_scope(terms.scope, terms.doc.delegates.as_slice(), node) {
+    if !is_in_scope(terms, node) {
         return Err(Halt::Outcome(Outcome::OutOfScope));
     }
     let Some(stored) = terms.state.remotes.get(node) else {

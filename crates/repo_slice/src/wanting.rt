@@ -14,7 +14,7 @@ use crate::identity::judge_id;
 use crate::progress::{Progress, is_waiting};
 use crate::rounds::round_at;
 use crate::stop::Stop;
-use crate::terms::Terms;
+use crate::terms::{Terms, followed_of};
 use crate::{Scope, State};
 use commit_graph::{GetFault, Objects};
 use keyring::Keyring;
@@ -77,11 +77,13 @@ pub(crate) fn wants_over<O: Objects>(
         Err(Stop::Whole(_)) => return Ok(Nids::new(alloc)),
         Err(Stop::Get(why)) => return Err(why),
     };
+    let followed = followed_of(alloc, scope)?;
     let terms = Terms {
         state,
         keyring,
         doc: &identity.doc,
         scope,
+        followed: &followed,
     };
     let round = round_at(alloc, objects, &terms, &offer.remotes, stage)?;
     let nodes = waiting(alloc, &offer.remotes, &round.found)?;

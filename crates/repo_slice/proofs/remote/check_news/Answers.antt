@@ -8,7 +8,7 @@ use Rattle.repo_slice.proofs.remote.check_news.Goals as goal
 
 pub returns-clause-told : goal.returns-clause-told
 returns-clause-told g c = λ m e. record {
-  scope = rw c.as_slice.ensures at (c.is_in_scope.ensures.0 c.if-not-is_in_scope.false);
+  scope = c.is_in_scope.ensures.0 c.if-not-is_in_scope.false;
   ahead = λ stored is h.
       let same : stored ≡ c.in-Some.stored = one_value is (sym c.get.ensures ∙ c.in-Some.is) in
       differ c.in_ok-is_old.is_old
