@@ -1,0 +1,5 @@
+pub mod Claiming
+pub mod Keys
+pub mod Moving
+pub mod Putting
+pub mod Standing

@@ -1,0 +1,182 @@
+-- The events of a call that has an entry to write.
+use Rattle.std.proofs.Common.{◌≡◌, ◌⊎◌, ℕ, ◌≤◌, Bool, true, false, List, [], ◌∷◌, ◌++◌, map, Option, None, Some, inl, inr, refl, sym, ap, subst, ◌∙◌}
+use Rattle.std.specs.Option.{is_some}
+use Rattle.std.specs.BTreeMap.{get}
+use Rattle.std.proofs.lemmas.List.{append-nil, map-append}
+use Rattle.rad_base.specs.Order.{rid_cmp}
+use Rattle.rad_base.specs.declared.names.Rid.{Rid}
+use Rattle.keyring.specs.Contents.{Contents}
+use Rattle.ref_journal.specs.Holds.{Holds, LeavesDoubt}
+use Rattle.ref_journal.specs.declared.faults.AppendFault.TheVariants as faults
+use Rattle.ref_journal.specs.declared.journal.Journal.{Journal}
+use Rattle.repo_entries.specs.Items.{Item, claim, entry_of, install, left_of, missed, put, refused}
+use Rattle.repo_entries.specs.declared.entry.Entry.{Entry}
+use Rattle.repo_entries.specs.declared.entry.Entry.TheVariants.{Missed}
+use Rattle.repo_entries.specs.declared.entry.Left.{Left}
+use Rattle.repo_entries.specs.declared.entry.Left.TheVariants as lefts
+use Rattle.repo_slice.specs.declared.keep_fault.KeepFault.TheVariants.{DiskFault}
+use Rattle.entry_bodies.specs.Bodies.{body_of}
+use Rattle.legal_history.specs.Cores.{Core, doubts, enters, mends, misses}
+use Rattle.legal_history.specs.Durable.{IsDurable, durable_part, reopened}
+use Rattle.legal_history.specs.Histories.{Lawful, Legal}
+use Rattle.legal_history.specs.Replays.{claimant}
+use Rattle.legal_history.proofs.Durables.{durable-append, durable_more, legal_more}
+use Rattle.object_store.specs.Bodies.{bodies_of, body_in_doubt}
+use Rattle.object_store.specs.Entries.{left_by, missed_by}
+use Rattle.object_store.specs.Repositories.{StandsAt}
+use Rattle.object_store.specs.Stores.{HasClaimed, IsOnDisk, IsRefusal, Moves, StandsFor}
+use Rattle.object_store.specs.declared.store.Store.{Store}
+use Rattle.object_store.proofs.Standing.{each_missed}
+
+-- an entry that is read again has its body
+same_body : (item : Item) → body_of (reopened item) ≡ body_of item
+same_body (claim rid caller) = refl
+same_body (put rid batch caller) = refl
+same_body (install rid id remotes caller) = refl
+same_body (missed of left caller) = refl
+same_body (refused rid why caller) = refl
+
+-- one durable entry more is one body more
+pub bodies_more : (items : List Item) (item : Item) → IsDurable item → bodies_of (durable_part (items ++ item ∷ [])) ≡ bodies_of (durable_part items) ++ body_of item ∷ []
+bodies_more items item d =
+    ap bodies_of (durable_more items item d) ∙ map-append body_of (durable_part items) (reopened item ∷ [])
+    ∙ ap (λ (b : List ℕ). bodies_of (durable_part items) ++ b ∷ []) (same_body item)
+
+-- a Missed entry has none
+bodies_missed : (items : List Item) (of : Option Rid) (left : Left) (caller : ℕ) → bodies_of (durable_part (items ++ missed of left caller ∷ [])) ≡ bodies_of (durable_part items)
+bodies_missed items of left caller = ap bodies_of (durable-append items (missed of left caller ∷ []) ∙ append-nil (durable_part items))
+
+-- what is left of an entry
+pub left_is : (item : Item) → IsDurable item → left_by (entry_of item) ≡ left_of item
+left_is (claim rid caller) d = absurd d
+left_is (put rid batch caller) d = refl
+left_is (install rid id remotes caller) d = refl
+left_is (missed of left caller) d = absurd d
+left_is (refused rid why caller) d = absurd d
+
+-- the caller that claimed is the one that the entries tell
+pub claimed_is : {D : Type 0} (store : Store D) (items : List Item) (rid : Rid) (caller : ℕ) → HasClaimed store rid caller → StandsFor store items → caller ≡ claimant rid items
+claimed_is store items rid caller c s =
+    let at : StandsAt (Some c.repository) rid items = subst (λ r. StandsAt r rid items) c.is (s.each rid) in
+    sym c.claimant ∙ at.claimed
+
+-- the history with one entry more
+pub entries_more : {D : Type 0} (old new : Store D) (items : List Item) (item : Item) → StandsFor old items
+    → new.history.entries.items ≡ old.history.entries.items ++ entry_of item ∷ [] → new.history.entries.items ≡ map entry_of (items ++ item ∷ [])
+entries_more old new items item s e = e ∙ ap (λ (l : List Entry). l ++ entry_of item ∷ []) s.entries ∙ sym (map-append entry_of items (item ∷ []))
+
+-- the store with one lawful entry more
+pub stands_more : {D : Type 0} (old new : Store D) (items : List Item) (item : Item) → StandsFor old items → Lawful old.keyring items item → new.keyring ≡ old.keyring
+    → new.history.entries.items ≡ old.history.entries.items ++ entry_of item ∷ []
+    → ((q : Rid) → StandsAt (get rid_cmp new.repositories q) q (items ++ item ∷ [])) → StandsFor new (items ++ item ∷ [])
+stands_more old new items item s lawful k e each = record {
+  entries = entries_more old new items item s e;
+  each = each;
+  legal = subst (λ (keyring : Contents). Legal keyring (items ++ item ∷ [])) (sym k) (legal_more old.keyring [] items item s.legal lawful);
+}
+
+module _ {D : Type 0} (reads : D → Option (List ℕ)) (images : D → List ℕ → Type 0) (old new : Store D) (core : Core) (s : StandsFor old core.items)
+    (k : new.keyring ≡ old.keyring) where
+  -- an entry that was entered
+  pub entered : (item : Item) → IsDurable item → Lawful old.keyring core.items item
+      → new.history.entries.items ≡ old.history.entries.items ++ entry_of item ∷ []
+      → ((q : Rid) → StandsAt (get rid_cmp new.repositories q) q (core.items ++ item ∷ []))
+      → ((bodies : List (List ℕ)) (doubt : Option (List ℕ)) → Holds reads images old.journal bodies doubt → Holds reads images new.journal (bodies ++ body_of item ∷ []) None)
+      → Moves reads images old new core (mends ∷ enters item ∷ [])
+  entered item durable lawful e each holds =
+      let mended : Core = record { items = core.items; doubt = None } in
+      let next : Core = record { items = core.items ++ item ∷ []; doubt = None } in
+      record {
+        next = next;
+        runs = (mended, refl, (next, (refl, durable, lawful, refl), refl));
+        stands = stands_more old new core.items item s lawful k e each;
+        disk = λ h. subst (λ (bodies : List (List ℕ)). Holds reads images new.journal bodies None) (sym (bodies_more core.items item durable))
+            (holds (bodies_of (durable_part core.items)) (body_in_doubt core.doubt) h);
+      }
+
+  -- an entry that is left in doubt
+  pub doubted : (rid : Rid) (caller : ℕ) (item : Item) → IsDurable item → Lawful old.keyring core.items item
+      → new.history.entries.items ≡ old.history.entries.items ++ Missed (Some rid) (left_of item) caller ∷ []
+      → ((q : Rid) → StandsAt (get rid_cmp new.repositories q) q core.items)
+      → ((bodies : List (List ℕ)) (doubt : Option (List ℕ)) → Holds reads images old.journal bodies doubt → Holds reads images new.journal bodies (Some (body_of item)))
+      → Moves reads images old new core (mends ∷ doubts (Some rid) caller item ∷ [])
+  doubted rid caller item durable lawful e each holds =
+      let note = missed (Some rid) (left_of item) caller in
+      let mended : Core = record { items = core.items; doubt = None } in
+      let next : Core = record { items = core.items ++ note ∷ []; doubt = Some item } in
+      record {
+        next = next;
+        runs = (mended, refl, (next, (refl, durable, lawful, refl), refl));
+        stands = stands_more old new core.items note s tt k e (each_missed new.repositories core.items (Some rid) (left_of item) caller each);
+        disk = λ h. subst (λ (bodies : List (List ℕ)). Holds reads images new.journal bodies (Some (body_of item))) (sym (bodies_missed core.items (Some rid) (left_of item) caller))
+            (holds (bodies_of (durable_part core.items)) (body_in_doubt core.doubt) h);
+      }
+
+  -- what a fault that leaves nothing new leaves, by what the journal knows
+  settled : (bodies : List (List ℕ)) (doubt : Option (List ℕ))
+      → Holds reads images new.journal bodies None ⊎ Holds reads images new.journal bodies doubt → new.journal.in_doubt ≡ false → Holds reads images new.journal bodies None
+  settled bodies doubt (inl none) f = none
+  settled bodies None (inr same) f = same
+  settled bodies (Some body) (inr same) f = absurd (let flag = same.flag in cc)
+
+  doubtful : (bodies : List (List ℕ)) (doubt : Option (List ℕ))
+      → Holds reads images new.journal bodies None ⊎ Holds reads images new.journal bodies doubt → new.journal.in_doubt ≡ true → Holds reads images new.journal bodies doubt
+  doubtful bodies doubt (inr same) f = same
+  doubtful bodies doubt (inl none) f = absurd (let flag = none.flag in cc)
+
+  -- a fault that leaves nothing new
+  missed_nothing : (rid : Rid) (caller : ℕ) → new.history.entries.items ≡ old.history.entries.items ++ Missed (Some rid) lefts.Nothing caller ∷ []
+      → ((q : Rid) → StandsAt (get rid_cmp new.repositories q) q core.items)
+      → ((bodies : List (List ℕ)) (doubt : Option (List ℕ)) → Holds reads images old.journal bodies doubt
+      → Holds reads images new.journal bodies None ⊎ Holds reads images new.journal bodies doubt)
+      → Moves reads images old new core (mends ∷ misses (Some rid) caller ∷ []) ⊎ Moves reads images old new core (misses (Some rid) caller ∷ [])
+  missed_nothing rid caller e each holds = by_flag new.journal.in_doubt refl
+    where
+      note : Item
+      note = missed (Some rid) lefts.Nothing caller
+
+      stands : StandsFor new (core.items ++ missed (Some rid) lefts.Nothing caller ∷ [])
+      stands = stands_more old new core.items (missed (Some rid) lefts.Nothing caller) s tt k e (each_missed new.repositories core.items (Some rid) lefts.Nothing caller each)
+
+      by_flag : (flag : Bool) → new.journal.in_doubt ≡ flag
+          → Moves reads images old new core (mends ∷ misses (Some rid) caller ∷ []) ⊎ Moves reads images old new core (misses (Some rid) caller ∷ [])
+      by_flag false f =
+          let mended : Core = record { items = core.items; doubt = None } in
+          let next : Core = record { items = core.items ++ missed (Some rid) lefts.Nothing caller ∷ []; doubt = None } in
+          inl (record {
+            next = next;
+            runs = (mended, refl, (next, refl, refl));
+            stands = stands;
+            disk = λ h. subst (λ (bodies : List (List ℕ)). Holds reads images new.journal bodies None) (sym (bodies_missed core.items (Some rid) lefts.Nothing caller))
+                (settled (bodies_of (durable_part core.items)) (body_in_doubt core.doubt) (holds (bodies_of (durable_part core.items)) (body_in_doubt core.doubt) h) f);
+          })
+      by_flag true f =
+          let next : Core = record { items = core.items ++ missed (Some rid) lefts.Nothing caller ∷ []; doubt = core.doubt } in
+          inr (record {
+            next = next;
+            runs = (next, refl, refl);
+            stands = stands;
+            disk = λ h. subst (λ (bodies : List (List ℕ)). Holds reads images new.journal bodies (body_in_doubt core.doubt)) (sym (bodies_missed core.items (Some rid) lefts.Nothing caller))
+                (doubtful (bodies_of (durable_part core.items)) (body_in_doubt core.doubt) (holds (bodies_of (durable_part core.items)) (body_in_doubt core.doubt) h) f);
+          })
+
+  -- a call that a fault of the disk refused
+  pub fault_left : (rid : Rid) (caller : ℕ) (item : Item) (in_doubt : Bool) → IsDurable item → Lawful old.keyring core.items item
+      → new.history.entries.items ≡ old.history.entries.items ++ missed_by (entry_of item) rid caller in_doubt ∷ []
+      → ((q : Rid) → StandsAt (get rid_cmp new.repositories q) q core.items)
+      → ((bodies : List (List ℕ)) (doubt : Option (List ℕ)) → Holds reads images old.journal bodies doubt
+      → LeavesDoubt reads images bodies doubt (body_of item) new.journal (faults.DiskFault in_doubt))
+      → IsRefusal reads images old new core rid caller item DiskFault
+  fault_left rid caller item true durable lawful e each left =
+      inl (doubted rid caller item durable lawful (e ∙ ap (λ (l : Left). old.history.entries.items ++ Missed (Some rid) l caller ∷ []) (left_is item durable)) each left)
+  fault_left rid caller item false durable lawful e each left = inr (missed_nothing rid caller e each left)
+
+  -- nothing happened
+  pub nothing_done : new.history.entries.items ≡ old.history.entries.items → new.journal ≡ old.journal → ((q : Rid) → StandsAt (get rid_cmp new.repositories q) q core.items)
+      → Moves reads images old new core []
+  nothing_done e j each = record {
+    next = core;
+    runs = refl;
+    stands = record { entries = e ∙ s.entries; each = each; legal = subst (λ (keyring : Contents). Legal keyring core.items) (sym k) s.legal };
+    disk = λ h. subst (λ (x : Journal D). Holds reads images x (bodies_of (durable_part core.items)) (body_in_doubt core.doubt)) (sym j) h;
+  }

@@ -1,0 +1,76 @@
+-- What a store stands for, and what its calls do.
+use Rattle.std.specs.Prelude.{◌≡◌, ◌⊎◌, ℕ, ◌≤◌, List, [], ◌∷◌, map, Option, None, Some, Result, Ok, Err}
+use Rattle.std.specs.BTreeMap.{get}
+use Rattle.rad_base.specs.declared.names.Rid.{Rid}
+use Rattle.rad_base.specs.Order.{rid_cmp}
+use Rattle.commit_graph.specs.Objects.{Object}
+use Rattle.commit_graph.specs.declared.fault.Changed.{Changed}
+use Rattle.repo_entries.specs.Items.{Item, entry_of, put}
+use Rattle.repo_slice.specs.declared.keep_fault.KeepFault.{KeepFault}
+use Rattle.repo_slice.specs.declared.keep_fault.KeepFault.TheVariants as keeps
+use Rattle.ref_journal.specs.Holds.{Holds}
+use Rattle.legal_history.specs.Cores.{Core, Event, Runs, claims, doubts, enters, mends, misses}
+use Rattle.legal_history.specs.Durable.{durable_part}
+use Rattle.legal_history.specs.Histories.{Legal}
+use Rattle.legal_history.specs.Replays.{claimant}
+use Rattle.object_store.specs.Bodies.{bodies_of, body_in_doubt}
+use Rattle.object_store.specs.Repositories.{StandsAt}
+use Rattle.object_store.specs.declared.faults.ClaimFault.{ClaimFault}
+use Rattle.object_store.specs.declared.faults.ClaimFault.TheVariants as claimed
+use Rattle.object_store.specs.declared.repository.Repository.{Repository}
+use Rattle.object_store.specs.declared.store.Store.{Store}
+
+-- the store stands for these entries: its history has them, each repository is what they make of it, and they are legal
+pub record StandsFor {D : Type 0} (store : Store D) (items : List Item) : Type 0 where
+  pub entries : store.history.entries.items ≡ map entry_of items
+  pub each : (rid : Rid) → StandsAt (get rid_cmp store.repositories rid) rid items
+  pub legal : Legal store.keyring items
+
+-- the store's journal holds the durable part of the entries, with that doubt
+abbrev pub IsOnDisk : {D : Type 0} → (D → Option (List ℕ)) → (D → List ℕ → Type 0) → Store D → Core → Type 0
+IsOnDisk reads images store core =
+    Holds reads images store.journal (bodies_of (durable_part core.items)) (body_in_doubt core.doubt)
+
+-- a call of a store with this core was these events: it stands for what they make of it, and so does its disk, where it
+-- told what the core says
+pub record Moves {D : Type 0} (reads : D → Option (List ℕ)) (images : D → List ℕ → Type 0) (old new : Store D)
+    (core : Core) (events : List Event) : Type 0 where
+  pub next : Core
+  pub runs : Runs old.keyring core events next
+  pub stands : StandsFor new next.items
+  pub disk : IsOnDisk reads images old core → IsOnDisk reads images new next
+
+-- The events of a refused call that had this entry to write. A fault of the disk leaves it in doubt, behind a mend; or
+-- leaves nothing new, with a mend before it or without one. Else nothing happens.
+abbrev pub IsRefusal : {D : Type 0} → (D → Option (List ℕ)) → (D → List ℕ → Type 0) → Store D → Store D → Core
+    → Rid → ℕ → Item → KeepFault → Type 0
+IsRefusal reads images old new core rid caller item keeps.DiskFault =
+    Moves reads images old new core (mends ∷ doubts (Some rid) caller item ∷ [])
+    ⊎ Moves reads images old new core (mends ∷ misses (Some rid) caller ∷ [])
+    ⊎ Moves reads images old new core (misses (Some rid) caller ∷ [])
+IsRefusal reads images old new core rid caller item keeps.Full = Moves reads images old new core []
+IsRefusal reads images old new core rid caller item (keeps.Changed change) = ⊥
+IsRefusal reads images old new core rid caller item keeps.NoMemory = Moves reads images old new core []
+
+-- the events of a put: it enters behind a mend, or is refused
+abbrev pub IsPut : {D : Type 0} → (D → Option (List ℕ)) → (D → List ℕ → Type 0) → Store D → Store D → Core
+    → Rid → List Object → ℕ → Result (Unit {0}) KeepFault → Type 0
+IsPut reads images old new core rid batch caller (Ok done) =
+    Moves reads images old new core (mends ∷ enters (put rid batch caller) ∷ [])
+IsPut reads images old new core rid batch caller (Err fault) =
+    IsRefusal reads images old new core rid caller (put rid batch caller) fault
+
+-- the events of a claim
+abbrev pub IsClaiming : {D : Type 0} → (D → Option (List ℕ)) → (D → List ℕ → Type 0) → Store D → Store D → Core
+    → Rid → ℕ → Result (Unit {0}) ClaimFault → Type 0
+IsClaiming reads images old new core rid caller (Ok done) = Moves reads images old new core (claims rid caller ∷ [])
+IsClaiming reads images old new core rid caller (Err (claimed.Claimed other)) =
+    Moves reads images old new core [] × (claimant rid core.items ≡ other) × (1 ≤ other)
+IsClaiming reads images old new core rid caller (Err claimed.NoMemory) = Moves reads images old new core []
+
+-- the caller claimed the repository
+pub record HasClaimed {D : Type 0} (store : Store D) (rid : Rid) (caller : ℕ) : Type 0 where
+  pub repository : Repository
+  pub is : get rid_cmp store.repositories rid ≡ Some repository
+  pub claimant : repository.claimant ≡ caller
+  pub some : 1 ≤ caller

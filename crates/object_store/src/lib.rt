@@ -1,0 +1,11 @@
+//! A store of repositories over a journal: what stands in it is the replay of a legal history.
+#![tactic(auto)]
+
+mod faults;
+mod missed;
+mod repository;
+mod store;
+
+pub use faults::ClaimFault;
+pub use repo_slice::KeepFault;
+pub use store::Store;

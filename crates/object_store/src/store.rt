@@ -1,0 +1,138 @@
+// The store that replays.
+ghost use Rattle.std.specs.Prelude.{◌≡◌, ◌≢◌, ◌⊎◌, ◌≤◌, ◌<◌, ◌+◌, ◌^◌, length, IfOk, IsErrOf};
+ghost use Rattle.std.specs.Prelude.{OnErr, OnOk};
+ghost use Rattle.std.specs.BTreeMap.{get};
+ghost use Rattle.rad_base.specs.Faults.{Rose};
+ghost use Rattle.rad_base.specs.Order.{rid_cmp};
+ghost use Rattle.rad_base.specs.declared.names.Rid.{Rid};
+ghost use Rattle.repo_entries.specs.Batches.{IsBatch};
+ghost use Rattle.repo_entries.specs.Histories.{HasRoom};
+ghost use Rattle.repo_entries.specs.Items.{names_of};
+ghost use Rattle.entry_bodies.specs.Bodies.{put_text};
+ghost use Rattle.legal_history.specs.Cores.{Core};
+ghost use Rattle.object_store.specs.Repositories.{HasStagedPut, IsIdle, IsPrepared, IsSame, own_rid};
+
+use crate::ClaimFault;
+use crate::missed::into_missed;
+use crate::repository::{Repository, admit_at, claim_at, stage_put_at, unstage_at};
+use entry_bodies::put_body;
+use keyring::Keyring;
+use rad_base::{NoMemory, Rid};
+use rad_outside::Disk;
+use ref_journal::{AppendFault, Journal, Parcel};
+use repo_slice::{Batch, Entry, History, KeepFault};
+use std::alloc::Global;
+use std::collections::BTreeMap;
+
+/// A store on a disk that it holds: its history, and what stands of each repository.
+#[derive(Drop)]
+pub struct Store<D> {
+    journal: Journal<D>,
+    keyring: Keyring,
+    repositories: BTreeMap<Rid, Repository>,
+    history: History,
+}
+
+// The body of a put in its frame.
+fn put_parcel(alloc: Global, rid: &Rid, batch: &Batch) -> Result<Parcel, NoMemory>
+    requires { IsBatch batch.now }
+    ensures { IfOk result (λ parcel. parcel ≡ put_text rid.now batch.now) }
+{
+    let body = put_body(alloc, rid, batch)?;
+    Parcel::of(alloc, body.as_slice())
+}
+
+impl<D: Disk> Store<D> {
+    ghost use Rattle.object_store.specs.Stores.{HasClaimed, IsClaiming, IsPut, StandsFor};
+
+    /// Lets a caller claim a repository for this run. `Claimed`: this caller claimed it. After a
+    /// refusal the history is as before.
+    pub fn claim(&mut self, alloc: Global, rid: &Rid, caller: u64) -> Result<(), ClaimFault>
+        requires { 1 ≤ caller }
+        ensures journal { self.new.journal ≡ self.old.journal }
+        ensures events { (core : Core) → StandsFor self.old core.items
+            → IsClaiming D.reads_as D.images self.old self.new core rid.now caller result }
+    {
+        self.history.make_room()?;
+        claim_at(alloc, &mut self.repositories, rid, caller)?;
+        self.history.push(Entry::Claim { rid: *rid, caller });
+        Ok(())
+    }
+
+    /// Puts objects into a repository that the caller claimed. `DiskFault`: a call of the disk
+    /// failed, and a missed entry was added, which says what was left in doubt. `Full`: the journal
+    /// would be longer than 2^40 bytes. After `Full` and `NoMemory` the history is as before.
+    pub fn put(
+        &mut self,
+        alloc: Global,
+        rid: &Rid,
+        caller: u64,
+        batch: &Batch,
+    ) -> Result<(), KeepFault>
+        requires claimed { HasClaimed self.old rid.now caller }
+        requires batch { IsBatch batch.now }
+        ensures stays { D.loan self.new.journal.disk ≡ D.loan self.old.journal.disk }
+        ensures later { D.faults self.old.journal.disk ≤ D.faults self.new.journal.disk }
+        ensures cause { IsErrOf result KeepFault.DiskFault
+            → Rose (D.faults self.old.journal.disk) (D.faults self.new.journal.disk) }
+        ensures full { IsErrOf result KeepFault.Full
+            → 2 ^ 40 < self.old.journal.end + 10 + length (put_text rid.now batch.now) }
+        ensures only_full { 2 ^ 40 < self.old.journal.end + 10 + length (put_text rid.now batch.now)
+            → IsErrOf result KeepFault.Full ⊎ IsErrOf result KeepFault.NoMemory }
+        ensures events { (core : Core) → StandsFor self.old core.items
+            → IsPut D.reads_as D.images self.old self.new core rid.now batch.now caller result }
+    {
+        let (entry, parcel) = self.prepare_put(alloc, rid, caller, batch)?;
+        match self.journal.append(&parcel) {
+            Ok(_) => {
+                admit_at(alloc, &mut self.repositories, rid, &entry);
+                self.history.push(entry);
+                Ok(())
+            }
+            Err(AppendFault::Full) => {
+                unstage_at(&mut self.repositories, rid);
+                Err(KeepFault::Full)
+            }
+            Err(AppendFault::DiskFault { in_doubt }) => {
+                unstage_at(&mut self.repositories, rid);
+                self.history.push(into_missed(entry, rid, caller, in_doubt));
+                Err(KeepFault::DiskFault)
+            }
+        }
+    }
+
+    // Takes all the memory of a put: its entry, its body, the room in the history and in the slice.
+    fn prepare_put(
+        &mut self,
+        alloc: Global,
+        rid: &Rid,
+        caller: u64,
+        batch: &Batch,
+    ) -> Result<(Entry, Parcel), NoMemory>
+        requires { IsBatch batch.now }
+        ensures journal { self.new.journal ≡ self.old.journal }
+        ensures keyring { self.new.keyring ≡ self.old.keyring }
+        ensures entries { self.new.history.entries.items ≡ self.old.history.entries.items }
+        ensures others { (other : Rid) → other ≢ rid.now
+            → get rid_cmp self.new.repositories other ≡ get rid_cmp self.old.repositories other }
+        ensures same { IsSame (get rid_cmp self.old.repositories rid.now)
+            (get rid_cmp self.new.repositories rid.now) }
+        ensures idle { OnErr result (IsIdle (get rid_cmp self.old.repositories rid.now)
+            → IsIdle (get rid_cmp self.new.repositories rid.now)) }
+        ensures staged { OnOk result (HasStagedPut batch.now
+            (get rid_cmp self.old.repositories rid.now)
+            (get rid_cmp self.new.repositories rid.now)) }
+        ensures prepared { IfOk result (λ x.
+            IsPrepared x.0 (get rid_cmp self.new.repositories rid.now)) }
+        ensures room { OnOk result (HasRoom self.new.history) }
+        ensures entry { IfOk result (λ x. x.0
+            ≡ Entry.Put (own_rid (get rid_cmp self.old.repositories rid.now) rid.now)
+            (names_of batch.now) caller) }
+        ensures parcel { IfOk result (λ x. x.1 ≡ put_text rid.now batch.now) }
+    {
+        self.history.make_room()?;
+        let parcel = put_parcel(alloc, rid, batch)?;
+        let entry = stage_put_at(alloc, &mut self.repositories, rid, caller, batch)?;
+        Ok((entry, parcel))
+    }
+}
