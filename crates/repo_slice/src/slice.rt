@@ -165,6 +165,7 @@ impl Slice {
         ensures state { state_of self.new ≡ state_of self.old }
         ensures staged { OnOk result (Stages self.old entry.now batch.now self.new) }
         ensures ready { OnOk result (IsReady self.new entry.now) }
+        ensures certain { OnOk result (IsCertain self.new entry.now) }
     {
         match entry {
             Entry::Put { names, .. } => {
@@ -186,6 +187,7 @@ impl Slice {
         ensures state { state_of self.new ≡ state_of self.old }
         ensures staged { OnOk result (Stages self.old entry.now batch.now self.new) }
         ensures ready { OnOk result (IsReady self.new entry.now) }
+        ensures certain { OnOk result (IsCertain self.new entry.now) }
         ensures none { OnErr result (HasNothingStaged self.new) }
     {
         self.unstage();
