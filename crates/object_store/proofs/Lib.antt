@@ -1,5 +1,10 @@
 pub mod Claiming
+pub mod Installing
 pub mod Keys
 pub mod Moving
+pub mod Opening
 pub mod Putting
+pub mod Reading
+pub mod Remotes
 pub mod Standing
+pub mod Taking

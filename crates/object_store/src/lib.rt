@@ -2,10 +2,12 @@
 #![tactic(auto)]
 
 mod faults;
+mod install;
 mod missed;
+mod replayed;
 mod repository;
 mod store;
 
-pub use faults::ClaimFault;
+pub use faults::{ClaimFault, StoreFault, Why};
 pub use repo_slice::KeepFault;
 pub use store::Store;

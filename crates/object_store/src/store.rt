@@ -1,6 +1,7 @@
 // The store that replays.
-ghost use Rattle.std.specs.Prelude.{◌≡◌, ◌≢◌, ◌⊎◌, ◌≤◌, ◌<◌, ◌+◌, ◌^◌, length, IfOk, IsErrOf};
-ghost use Rattle.std.specs.Prelude.{OnErr, OnOk};
+ghost use Rattle.std.specs.Prelude.{◌≡◌, ◌≢◌, ◌⊎◌, ◌≤◌, ◌<◌, ◌+◌, ◌^◌, length, IfErr, IfOk, IfSome};
+ghost use Rattle.ref_journal.specs.Holds.{OnlyReads};
+ghost use Rattle.std.specs.Prelude.{IsErrOf, OnErr, OnOk};
 ghost use Rattle.std.specs.BTreeMap.{get};
 ghost use Rattle.rad_base.specs.Faults.{Rose};
 ghost use Rattle.rad_base.specs.Order.{rid_cmp};
@@ -12,14 +13,15 @@ ghost use Rattle.entry_bodies.specs.Bodies.{put_text};
 ghost use Rattle.legal_history.specs.Cores.{Core};
 ghost use Rattle.object_store.specs.Repositories.{HasStagedPut, IsIdle, IsPrepared, IsSame, own_rid};
 
-use crate::ClaimFault;
+use crate::replayed::{ReadFault, read_all};
+use crate::{ClaimFault, StoreFault, Why};
 use crate::missed::into_missed;
 use crate::repository::{Repository, admit_at, claim_at, stage_put_at, unstage_at};
 use entry_bodies::put_body;
 use keyring::Keyring;
 use rad_base::{NoMemory, Rid};
 use rad_outside::Disk;
-use ref_journal::{AppendFault, Journal, Parcel};
+use ref_journal::{AppendFault, Journal, OpenFault, Parcel};
 use repo_slice::{Batch, Entry, History, KeepFault};
 use std::alloc::Global;
 use std::collections::BTreeMap;
@@ -42,8 +44,48 @@ fn put_parcel(alloc: Global, rid: &Rid, batch: &Batch) -> Result<Parcel, NoMemor
     Parcel::of(alloc, body.as_slice())
 }
 
+// A refusal, with the disk.
+fn fault<D>(disk: D, why: Why) -> StoreFault<D>
+    ensures { result ≡ record { disk = disk; why = why } }
+{
+    StoreFault { disk, why }
+}
+
 impl<D: Disk> Store<D> {
+    ghost use Rattle.object_store.specs.Opened.{HasOpenCause, IsOpenedStore, OpensAs, opened_disk};
     ghost use Rattle.object_store.specs.Stores.{HasClaimed, IsClaiming, IsPut, StandsFor};
+
+    /// Opens the store that stands on a disk, under a keyring. It writes nothing. A refusal gives the
+    /// disk back.
+    pub fn open(alloc: Global, disk: D, keyring: Keyring) -> Result<Store<D>, StoreFault<D>>
+        ensures reads { OnlyReads D.loan D.faults D.reads_as D.images D.moment D.images_since
+            disk (opened_disk result) }
+        ensures cause { IfErr result (HasOpenCause (D.faults disk) D.faults) }
+        ensures stands { IfOk result (OpensAs keyring) }
+        ensures opened { IfSome (D.reads_as disk)
+            (λ bytes. IsOpenedStore D.reads_as D.images keyring bytes result) }
+    {
+        let mut journal = match Journal::open(disk) {
+            Ok(journal) => journal,
+            Err(OpenFault::DiskFault(disk)) => return Err(fault(disk, Why::DiskFault)),
+            Err(OpenFault::Unmade(disk)) => return Err(fault(disk, Why::Unmade)),
+            Err(OpenFault::Damaged(disk, place)) => {
+                return Err(fault(disk, Why::Damaged(place)));
+            }
+        };
+        match read_all(alloc, &mut journal, &keyring) {
+            Ok(read) => Ok(Store {
+                journal,
+                keyring,
+                repositories: read.repositories,
+                history: read.history,
+            }),
+            Err(ReadFault::DiskFault) => Err(fault(journal.close(), Why::DiskFault)),
+            Err(ReadFault::Damaged(place)) => Err(fault(journal.close(), Why::Damaged(place))),
+            Err(ReadFault::NotLegal(n)) => Err(fault(journal.close(), Why::NotLegal(n))),
+            Err(ReadFault::NoMemory) => Err(fault(journal.close(), Why::NoMemory)),
+        }
+    }
 
     /// Lets a caller claim a repository for this run. `Claimed`: this caller claimed it. After a
     /// refusal the history is as before.
