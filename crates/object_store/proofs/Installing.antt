@@ -49,7 +49,7 @@ each_known a b rid items h others known q = elim (same_or_other q rid) [
 ]
 
 -- what is good has few remotes
-few_in : (objects : ObjectMap) (keyring : Contents) (state : State) → IsGood objects keyring state → length state.remotes ≤ 1024
+pub few_in : (objects : ObjectMap) (keyring : Contents) (state : State) → IsGood objects keyring state → length state.remotes ≤ 1024
 few_in objects keyring state (inl none) = omega (arith, ap length none.1)
 few_in objects keyring state (inr stands) = stands.2.few
 

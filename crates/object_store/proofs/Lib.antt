@@ -1,5 +1,6 @@
 pub mod Claiming
 pub mod Installing
+pub mod Judging
 pub mod Keys
 pub mod Moving
 pub mod Opening
@@ -8,3 +9,4 @@ pub mod Reading
 pub mod Remotes
 pub mod Standing
 pub mod Taking
+pub mod Writing

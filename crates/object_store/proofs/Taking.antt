@@ -18,6 +18,7 @@ use Rattle.repo_entries.specs.declared.entry.Entry.{Entry}
 use Rattle.repo_entries.specs.declared.entry.Entry.TheVariants.{Install, Put}
 use Rattle.repo_entries.specs.declared.whole.Whole.{Whole}
 use Rattle.repo_slice.specs.Verdicts.{Allows, IsVerdict}
+use Rattle.repo_slice.specs.declared.scope.Scope.{Scope}
 use Rattle.repo_slice.specs.declared.scope.Scope.TheVariants.{All}
 use Rattle.repo_slice.specs.declared.state.State.{State}
 use Rattle.repo_slice.specs.declared.verdict.Judged.{Judged}
@@ -133,12 +134,12 @@ module _ (keyring : Contents) (old new : Replayed) (k m : BTreeMap Rid Repositor
       (subst (λ (x : Entry). IsAdmitted x (get rid_cmp m rid) (get rid_cmp new.repositories rid)) en admitted) here)) none h
 
 -- the verdict on what stands
-verdict_is : (o : Option Repository) (rid : Rid) (keyring : Contents) (items : List Item) (offer : Offer) (verdict : Result Judged Whole) → (o ≡ None → ⊥) → Legal keyring items → StandsAt o rid items
-    → IsVerdictAt o keyring offer All verdict → IsVerdict (replay rid items).objects keyring (replayed_state rid items) offer All verdict
-verdict_is None rid keyring items offer verdict there legal h told = absurd (there refl)
-verdict_is (Some r) rid keyring items offer verdict there legal h told =
-    subst (λ (objects : ObjectMap). IsVerdict objects keyring (replayed_state rid items) offer All verdict) h.objects
-    (subst (λ (state : State). IsVerdict (objects_of r.slice) keyring state offer All verdict) h.state (told (stands_good r rid keyring items legal h)))
+pub verdict_is : (o : Option Repository) (rid : Rid) (keyring : Contents) (items : List Item) (offer : Offer) (scope : Scope) (verdict : Result Judged Whole) → (o ≡ None → ⊥) → Legal keyring items → StandsAt o rid items
+    → IsVerdictAt o keyring offer scope verdict → IsVerdict (replay rid items).objects keyring (replayed_state rid items) offer scope verdict
+verdict_is None rid keyring items offer scope verdict there legal h told = absurd (there refl)
+verdict_is (Some r) rid keyring items offer scope verdict there legal h told =
+    subst (λ (objects : ObjectMap). IsVerdict objects keyring (replayed_state rid items) offer scope verdict) h.objects
+    (subst (λ (state : State). IsVerdict (objects_of r.slice) keyring state offer scope verdict) h.state (told (stands_good r rid keyring items legal h)))
 
 module _ (keyring : Contents) (rid : Rid) (items : List Item) (id : Oid) (remotes : List (Nid × Oid)) where
   -- what is judged so is allowed
@@ -162,13 +163,13 @@ module _ (keyring : Contents) (rid : Rid) (items : List Item) (id : Oid) (remote
       → HasBody (install rid id remotes 0) → IsWholeAdvance remotes verdict → MayInstall keyring items rid id remotes
   may_install a b verdict legal h known told body advance = record {
     rising = body.0.rising;
-    allowed = allowed_by verdict (verdict_is b rid keyring items (record { id = id; remotes = remotes }) verdict (known_there a b rid known) legal (stands_known a b rid items known h) told) advance;
+    allowed = allowed_by verdict (verdict_is b rid keyring items (record { id = id; remotes = remotes }) All verdict (known_there a b rid known) legal (stands_known a b rid items known h) told) advance;
   }
 
   pub may_not_install : (a b : Option Repository) (verdict : Result Judged Whole) → Legal keyring items → StandsAt a rid items → IsKnown rid a b → IsVerdictAt b keyring (record { id = id; remotes = remotes }) All verdict
       → (IsWholeAdvance remotes verdict → ⊥) → Lawful keyring items (install rid id remotes 0) → ⊥
   may_not_install a b verdict legal h known told none lawful =
-      none (advance_by verdict (verdict_is b rid keyring items (record { id = id; remotes = remotes }) verdict (known_there a b rid known) legal (stands_known a b rid items known h) told)
+      none (advance_by verdict (verdict_is b rid keyring items (record { id = id; remotes = remotes }) All verdict (known_there a b rid known) legal (stands_known a b rid items known h) told)
       lawful.0.allowed)
 
 -- the repository has few remotes

@@ -5,3 +5,4 @@ pub mod Opened
 pub mod Opens
 pub mod Repositories
 pub mod Stores
+pub mod Writes

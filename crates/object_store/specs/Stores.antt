@@ -1,18 +1,24 @@
 -- What a store stands for, and what its calls do.
-use Rattle.std.specs.Prelude.{◌≡◌, ◌⊎◌, ℕ, ◌≤◌, List, [], ◌∷◌, map, Option, None, Some, Result, Ok, Err}
+use Rattle.std.specs.Prelude.{◌≡◌, ◌⊎◌, ℕ, ◌+◌, ◌^◌, ◌<◌, ◌≤◌, length, List, [], ◌∷◌, map, Option, None, Some, Result, Ok, Err}
 use Rattle.std.specs.BTreeMap.{get}
 use Rattle.rad_base.specs.declared.names.Rid.{Rid}
 use Rattle.rad_base.specs.Order.{rid_cmp}
 use Rattle.commit_graph.specs.Objects.{Object}
-use Rattle.commit_graph.specs.declared.fault.Changed.{Changed}
-use Rattle.repo_entries.specs.Items.{Item, entry_of, put}
+use Rattle.rad_base.specs.declared.offer.Offer.{Offer}
+use Rattle.keyring.specs.Contents.{Contents}
+use Rattle.repo_entries.specs.Items.{Item, entry_of, install, put}
 use Rattle.repo_slice.specs.declared.keep_fault.KeepFault.{KeepFault}
 use Rattle.repo_slice.specs.declared.keep_fault.KeepFault.TheVariants as keeps
+use Rattle.repo_entries.specs.declared.whole.Whole.{Whole}
+use Rattle.repo_slice.specs.Verdicts.{IsVerdict}
+use Rattle.repo_slice.specs.declared.scope.Scope.{Scope}
+use Rattle.repo_slice.specs.declared.verdict.Judged.{Judged}
+use Rattle.entry_bodies.specs.Bodies.{body_of}
 use Rattle.ref_journal.specs.Holds.{Holds}
-use Rattle.legal_history.specs.Cores.{Core, Event, Runs, claims, doubts, enters, mends, misses}
+use Rattle.legal_history.specs.Cores.{Core, Event, Runs, claims, doubts, enters, mends, misses, refuses}
 use Rattle.legal_history.specs.Durable.{durable_part}
 use Rattle.legal_history.specs.Histories.{Legal}
-use Rattle.legal_history.specs.Replays.{claimant}
+use Rattle.legal_history.specs.Replays.{claimant, replay, replayed_state}
 use Rattle.object_store.specs.Bodies.{bodies_of, body_in_doubt}
 use Rattle.object_store.specs.Repositories.{StandsAt}
 use Rattle.object_store.specs.declared.faults.ClaimFault.{ClaimFault}
@@ -74,3 +80,43 @@ pub record HasClaimed {D : Type 0} (store : Store D) (rid : Rid) (caller : ℕ) 
   pub is : get rid_cmp store.repositories rid ≡ Some repository
   pub claimant : repository.claimant ≡ caller
   pub some : 1 ≤ caller
+
+-- the store stands for some entries
+abbrev pub Stands : {D : Type 0} → Store D → Type 0
+Stands store = (items : List Item) × StandsFor store items
+
+-- the journal has no room for an entry's body
+abbrev pub LacksRoom : ℕ → Item → Type 0
+LacksRoom end item = 2 ^ 40 < end + 10 + length (body_of item)
+
+-- the verdict on an offer, on what the entries make of a repository
+abbrev pub IsVerdictOn : Contents → List Item → Rid → Offer → Scope → Result Judged Whole → Type 0
+IsVerdictOn keyring items rid offer scope verdict =
+    IsVerdict (replay rid items).objects keyring (replayed_state rid items) offer scope verdict
+
+-- the entry of what was judged so
+abbrev pub install_of : Rid → ℕ → Judged → Item
+install_of rid caller judged = install rid judged.next_id judged.advanced caller
+
+-- What an install does. What was judged so enters behind a mend, or is refused; a whole refusal writes nothing; memory
+-- may be refused before anything is judged.
+abbrev pub IsInstall : {D : Type 0} → (D → Option (List ℕ)) → (D → List ℕ → Type 0) → Store D → Store D → Core
+    → Rid → Offer → Scope → ℕ → Result (Result Judged Whole) KeepFault → Type 0
+IsInstall reads images old new core rid offer scope caller (Ok (Ok judged)) =
+    IsVerdictOn old.keyring core.items rid offer scope (Ok judged)
+    × Moves reads images old new core (mends ∷ enters (install_of rid caller judged) ∷ [])
+IsInstall reads images old new core rid offer scope caller (Ok (Err why)) =
+    IsVerdictOn old.keyring core.items rid offer scope (Err why) × Moves reads images old new core (refuses rid why caller ∷ [])
+IsInstall reads images old new core rid offer scope caller (Err keeps.DiskFault) =
+    (judged : Judged) × IsVerdictOn old.keyring core.items rid offer scope (Ok judged)
+    × IsRefusal reads images old new core rid caller (install_of rid caller judged) keeps.DiskFault
+IsInstall reads images old new core rid offer scope caller (Err keeps.Full) =
+    (judged : Judged) × IsVerdictOn old.keyring core.items rid offer scope (Ok judged)
+    × LacksRoom old.journal.end (install_of rid caller judged) × Moves reads images old new core []
+IsInstall reads images old new core rid offer scope caller (Err (keeps.Changed change)) = ⊥
+IsInstall reads images old new core rid offer scope caller (Err keeps.NoMemory) = Moves reads images old new core []
+
+-- the journal had room for what was judged
+abbrev pub HadRoom : ℕ → Rid → ℕ → Result Judged Whole → Type 0
+HadRoom end rid caller (Ok judged) = LacksRoom end (install_of rid caller judged) → ⊥
+HadRoom end rid caller (Err why) = Unit {0}

@@ -1,28 +1,30 @@
 // The store that replays.
-ghost use Rattle.std.specs.Prelude.{◌≡◌, ◌≢◌, ◌⊎◌, ◌≤◌, ◌<◌, ◌+◌, ◌^◌, length, IfErr, IfOk, IfSome};
+ghost use Rattle.std.specs.Prelude.{◌≡◌, ◌≢◌, ◌↔◌, ◌⊎◌, ◌≤◌, ◌<◌, ◌+◌, ◌^◌, length, IfErr, IfOk, IfSome};
 ghost use Rattle.ref_journal.specs.Holds.{OnlyReads};
 ghost use Rattle.std.specs.Prelude.{IsErrOf, OnErr, OnOk};
 ghost use Rattle.std.specs.BTreeMap.{get};
 ghost use Rattle.rad_base.specs.Faults.{Rose};
-ghost use Rattle.rad_base.specs.Order.{rid_cmp};
+ghost use Rattle.rad_base.specs.Order.{IsRising, rid_cmp};
 ghost use Rattle.rad_base.specs.declared.names.Rid.{Rid};
 ghost use Rattle.repo_entries.specs.Batches.{IsBatch};
 ghost use Rattle.repo_entries.specs.Histories.{HasRoom};
 ghost use Rattle.repo_entries.specs.Items.{names_of};
-ghost use Rattle.entry_bodies.specs.Bodies.{put_text};
+ghost use Rattle.entry_bodies.specs.Bodies.{install_text, put_text};
 ghost use Rattle.legal_history.specs.Cores.{Core};
+ghost use Rattle.object_store.specs.Installs.{HasFew, HasStagedInstall, IsVerdictAt};
 ghost use Rattle.object_store.specs.Repositories.{HasStagedPut, IsIdle, IsPrepared, IsSame, own_rid};
 
 use crate::replayed::{ReadFault, read_all};
 use crate::{ClaimFault, StoreFault, Why};
+use crate::install::{judge_at, stage_install_at};
 use crate::missed::into_missed;
 use crate::repository::{Repository, admit_at, claim_at, stage_put_at, unstage_at};
-use entry_bodies::put_body;
+use entry_bodies::{install_body, put_body};
 use keyring::Keyring;
-use rad_base::{NoMemory, Rid};
+use rad_base::{NoMemory, Offer, Remotes, Rid};
 use rad_outside::Disk;
 use ref_journal::{AppendFault, Journal, OpenFault, Parcel};
-use repo_slice::{Batch, Entry, History, KeepFault};
+use repo_slice::{Batch, Entry, History, Judged, KeepFault, Scope, Whole};
 use std::alloc::Global;
 use std::collections::BTreeMap;
 
@@ -44,6 +46,28 @@ fn put_parcel(alloc: Global, rid: &Rid, batch: &Batch) -> Result<Parcel, NoMemor
     Parcel::of(alloc, body.as_slice())
 }
 
+// The body of an install of what is offered, in its frame.
+fn install_parcel(alloc: Global, rid: &Rid, offer: &Offer) -> Result<Parcel, NoMemory>
+    requires { length offer.now.remotes ≤ 1024 }
+    ensures { IfOk result (λ parcel. parcel ≡ install_text rid.now offer.now.id offer.now.remotes) }
+{
+    let body = install_body(alloc, rid, &offer.id, &offer.remotes)?;
+    Parcel::of(alloc, body.as_slice())
+}
+
+// The next identity and the remotes that advance, whose keys rise, as an offer of their own.
+fn next_of(alloc: Global, judged: &Judged) -> Result<Offer, NoMemory>
+    ensures next { IfOk result (λ next. (next.id ≡ judged.now.next_id)
+        × (next.remotes ≡ judged.now.advanced)) }
+    ensures rising { IsRising judged.now.advanced }
+{
+    let remotes = judged.advanced.as_slice();
+    Ok(Offer {
+        id: judged.next_id,
+        remotes: Remotes::of(remotes.to_vec(alloc)?),
+    })
+}
+
 // A refusal, with the disk.
 fn fault<D>(disk: D, why: Why) -> StoreFault<D>
     ensures { result ≡ record { disk = disk; why = why } }
@@ -53,7 +77,9 @@ fn fault<D>(disk: D, why: Why) -> StoreFault<D>
 
 impl<D: Disk> Store<D> {
     ghost use Rattle.object_store.specs.Opened.{HasOpenCause, IsOpenedStore, OpensAs, opened_disk};
-    ghost use Rattle.object_store.specs.Stores.{HasClaimed, IsClaiming, IsPut, StandsFor};
+    ghost use Rattle.object_store.specs.Stores.{HadRoom, HasClaimed, IsClaiming, IsInstall, IsPut};
+    ghost use Rattle.object_store.specs.Stores.{Stands, StandsFor};
+    ghost use Rattle.object_store.specs.Writes.{HasWritten, IsWriteFault};
 
     /// Opens the store that stands on a disk, under a keyring. It writes nothing. A refusal gives the
     /// disk back.
@@ -125,7 +151,136 @@ impl<D: Disk> Store<D> {
             → IsPut D.reads_as D.images self.old self.new core rid.now batch.now caller result }
     {
         let (entry, parcel) = self.prepare_put(alloc, rid, caller, batch)?;
-        match self.journal.append(&parcel) {
+        self.write(alloc, rid, caller, entry, &parcel)
+    }
+
+    /// Judges an offer on a repository that the caller claimed, and installs what advances: the
+    /// objects of the offer were put before. A whole refusal adds one refused entry and writes
+    /// nothing. `DiskFault`: a call of the disk failed, and a missed entry was added, which says
+    /// what was left in doubt. `Full`: the journal would be longer than 2^40 bytes. After `Full`
+    /// and `NoMemory` the history is as before.
+    pub fn install(
+        &mut self,
+        alloc: Global,
+        rid: &Rid,
+        caller: u64,
+        offer: &Offer,
+        scope: &Scope,
+    ) -> Result<Result<Judged, Whole>, KeepFault>
+        requires claimed { HasClaimed self.old rid.now caller }
+        requires stands { Stands self.old }
+        ensures stays { D.loan self.new.journal.disk ≡ D.loan self.old.journal.disk }
+        ensures later { D.faults self.old.journal.disk ≤ D.faults self.new.journal.disk }
+        ensures cause { IsErrOf result KeepFault.DiskFault
+            → Rose (D.faults self.old.journal.disk) (D.faults self.new.journal.disk) }
+        ensures room { IfOk result (HadRoom self.old.journal.end rid.now caller) }
+        ensures events { (core : Core) → StandsFor self.old core.items
+            → IsInstall D.reads_as D.images self.old self.new core rid.now offer.now scope.now
+            caller result }
+    {
+        let judged = match self.judge(alloc, rid, offer, scope)? {
+            Ok(judged) => judged,
+            Err(why) => {
+                self.history.push(Entry::Refused {
+                    rid: *rid,
+                    why,
+                    caller,
+                });
+                return Ok(Err(why));
+            }
+        };
+        let next = next_of(alloc, &judged)?;
+        let (entry, parcel) = self.prepare_install(alloc, rid, caller, next)?;
+        self.write(alloc, rid, caller, entry, &parcel)?;
+        Ok(Ok(judged))
+    }
+
+    // Judges an offer on a repository, and takes the room of one entry.
+    fn judge(
+        &mut self,
+        alloc: Global,
+        rid: &Rid,
+        offer: &Offer,
+        scope: &Scope,
+    ) -> Result<Result<Judged, Whole>, NoMemory>
+        requires { HasFew (get rid_cmp self.old.repositories rid.now) }
+        ensures journal { self.new.journal ≡ self.old.journal }
+        ensures keyring { self.new.keyring ≡ self.old.keyring }
+        ensures entries { self.new.history.entries.items ≡ self.old.history.entries.items }
+        ensures others { (other : Rid) → other ≢ rid.now
+            → get rid_cmp self.new.repositories other ≡ get rid_cmp self.old.repositories other }
+        ensures same { get rid_cmp self.new.repositories rid.now
+            ≡ get rid_cmp self.old.repositories rid.now }
+        ensures room { OnOk result (HasRoom self.new.history) }
+        ensures told { IfOk result (IsVerdictAt (get rid_cmp self.old.repositories rid.now)
+            self.old.keyring offer.now scope.now) }
+    {
+        self.history.make_room()?;
+        let all = &mut self.repositories;
+        judge_at(alloc, all, rid, offer, &self.keyring, scope)
+    }
+
+    // Takes the memory of an install: its entry, its body, the room in the slice.
+    fn prepare_install(
+        &mut self,
+        alloc: Global,
+        rid: &Rid,
+        caller: u64,
+        offer: Offer,
+    ) -> Result<(Entry, Parcel), NoMemory>
+        requires few { length offer.remotes ≤ 1024 }
+        requires room { HasRoom self.old.history }
+        ensures journal { self.new.journal ≡ self.old.journal }
+        ensures keyring { self.new.keyring ≡ self.old.keyring }
+        ensures history { self.new.history ≡ self.old.history }
+        ensures others { (other : Rid) → other ≢ rid.now
+            → get rid_cmp self.new.repositories other ≡ get rid_cmp self.old.repositories other }
+        ensures same { IsSame (get rid_cmp self.old.repositories rid.now)
+            (get rid_cmp self.new.repositories rid.now) }
+        ensures idle { OnErr result (IsIdle (get rid_cmp self.old.repositories rid.now)
+            → IsIdle (get rid_cmp self.new.repositories rid.now)) }
+        ensures staged { OnOk result (HasStagedInstall offer.id offer.remotes
+            (get rid_cmp self.old.repositories rid.now)
+            (get rid_cmp self.new.repositories rid.now)) }
+        ensures prepared { IfOk result (λ x.
+            IsPrepared x.0 (get rid_cmp self.new.repositories rid.now)) }
+        ensures entry { IfOk result (λ x. x.0
+            ≡ Entry.Install (own_rid (get rid_cmp self.old.repositories rid.now) rid.now)
+            offer.id offer.remotes caller) }
+        ensures parcel { IfOk result (λ x. x.1
+            ≡ install_text rid.now offer.id offer.remotes) }
+    {
+        let parcel = install_parcel(alloc, rid, &offer)?;
+        let entry = stage_install_at(alloc, &mut self.repositories, rid, caller, offer)?;
+        Ok((entry, parcel))
+    }
+
+    // Writes an entry that is prepared, and lets it stand. It takes no memory.
+    fn write(
+        &mut self,
+        alloc: Global,
+        rid: &Rid,
+        caller: u64,
+        entry: Entry,
+        parcel: &Parcel,
+    ) -> Result<(), KeepFault>
+        requires prepared { IsPrepared entry (get rid_cmp self.old.repositories rid.now) }
+        requires room { HasRoom self.old.history }
+        ensures stays { D.loan self.new.journal.disk ≡ D.loan self.old.journal.disk }
+        ensures later { D.faults self.old.journal.disk ≤ D.faults self.new.journal.disk }
+        ensures cause { IsErrOf result KeepFault.DiskFault
+            → Rose (D.faults self.old.journal.disk) (D.faults self.new.journal.disk) }
+        ensures full { IsErrOf result KeepFault.Full
+            ↔ (2 ^ 40 < self.old.journal.end + 10 + length parcel.now) }
+        ensures keyring { self.new.keyring ≡ self.old.keyring }
+        ensures others { (other : Rid) → other ≢ rid.now
+            → get rid_cmp self.new.repositories other ≡ get rid_cmp self.old.repositories other }
+        ensures wrote { OnOk result (HasWritten D.reads_as D.images self.old self.new rid.now entry
+            parcel.now) }
+        ensures fault { IfErr result (IsWriteFault D.reads_as D.images self.old self.new rid.now
+            caller entry parcel.now) }
+    {
+        match self.journal.append(parcel) {
             Ok(_) => {
                 admit_at(alloc, &mut self.repositories, rid, &entry);
                 self.history.push(entry);
