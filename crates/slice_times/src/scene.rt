@@ -1,0 +1,103 @@
+// Offers of new remotes, each at the tip of one chain of commits.
+use crate::filling::Filling;
+use crate::objects::{DOCUMENT, add_chain, add_identity, add_signed, refs_at, signature_of};
+use git_object::{Kind, name_of};
+use keyring::Keyring;
+use rad_base::{Nid, Offer, Oid, Remotes, Rid};
+use repo_slice::{Scope, Slice, Whole, judge};
+use sha2::{Digest as _, Sha256};
+use std::alloc::Global;
+
+/// A slice with objects alone, an offer of it, and the keyring that accepts what it says.
+#[derive(Drop)]
+pub struct Scene {
+    slice: Slice,
+    offer: Offer,
+    keyring: Keyring,
+}
+
+// The key of a number: of the delegate for 0, of others in rising order behind it.
+fn node_of(number: u32) -> Nid {
+    if number == 0 {
+        return Nid([1; 32]);
+    }
+    let mut node = Nid([2; 32]);
+    node.0[1] = u8::try_from(number / 256).unwrap_or(0);
+    node.0[2] = u8::try_from(number % 256).unwrap_or(0);
+    node
+}
+
+// Writes a space and bytes in hexadecimal digits.
+fn push_digits(alloc: Global, line: &mut Vec<u8>, raw: &[u8]) -> Option<()> {
+    let digits = hex::encode(alloc, raw).ok()?;
+    line.push(b' ').ok()?;
+    line.extend_from_slice(digits.as_bytes()).ok()
+}
+
+// Writes the line that accepts a node's signature of the refs of this digest.
+fn push_accept(alloc: Global, text: &mut Vec<u8>, node: &Nid, digest: &[u8]) -> Option<()> {
+    text.extend_from_slice(b"accept").ok()?;
+    push_digits(alloc, text, node.0.as_slice())?;
+    push_digits(alloc, text, digest)?;
+    push_digits(alloc, text, &signature_of(alloc, node)?)?;
+    text.push(b'\n').ok()
+}
+
+// The keyring that accepts the signatures of so many nodes of these refs.
+fn keyring_of(alloc: Global, nodes: u32, refs: &[u8]) -> Option<Keyring> {
+    let digest: [u8; 32] = Sha256::digest(refs);
+    let mut text = Vec::new(alloc);
+    for number in 0..nodes {
+        push_accept(alloc, &mut text, &node_of(number), digest.as_slice())?;
+    }
+    Keyring::read(alloc, &text).ok()
+}
+
+// Adds what so many nodes signed of the refs of this name, and answers their remotes.
+fn add_remotes(alloc: Global, filling: &mut Filling, nodes: u32, refs: &Oid) -> Option<Remotes> {
+    let mut remotes = Remotes::new(alloc);
+    for number in 0..nodes {
+        let node = node_of(number);
+        let commit = add_signed(alloc, filling, &node, refs)?;
+        if !remotes.is_above(&node) {
+            return None;
+        }
+        remotes.push(node, commit).ok()?;
+    }
+    Some(remotes)
+}
+
+impl Scene {
+    /// The offer of so many nodes, of whom the first is the one delegate, over a chain of so many
+    /// commits, which lacks its first file if it is not whole.
+    pub fn new(alloc: Global, commits: u32, nodes: u32, is_whole: bool) -> Option<Scene> {
+        let rid = Rid(name_of(Kind::Blob, DOCUMENT));
+        let mut filling = Filling::new(alloc, &rid);
+        let id = add_identity(alloc, &mut filling)?;
+        let tip = add_chain(alloc, &mut filling, commits, is_whole)?;
+        let refs = refs_at(alloc, &tip)?;
+        let keyring = keyring_of(alloc, nodes, &refs)?;
+        let refs = filling.add(alloc, Kind::Blob, refs).ok()?;
+        let remotes = add_remotes(alloc, &mut filling, nodes, &refs)?;
+        filling.finish(alloc).ok()?;
+        Some(Scene {
+            slice: filling.slice,
+            offer: Offer { id, remotes },
+            keyring,
+        })
+    }
+
+    /// Judges the offer, and answers how many remotes advance: none where the delegate's does not,
+    /// since the offer is refused whole then.
+    pub fn advancing(&mut self, alloc: Global) -> Option<usize> {
+        if self.slice.remotes().as_slice().len() > 1024 {
+            return None;
+        }
+        let (slice, offer, keyring) = (&mut self.slice, &self.offer, &self.keyring);
+        match judge(alloc, slice, offer, keyring, &Scope::All).ok()? {
+            Ok(judged) => Some(judged.advanced.as_slice().len()),
+            Err(Whole::TooFewDelegates { .. }) => Some(0),
+            Err(_) => None,
+        }
+    }
+}
