@@ -1,0 +1,23 @@
+// Laws of messages and frames.
+ghost use Rattle.std.specs.Prelude.{◌≡◌, ◌++◌, ℕ, List, length};
+ghost use Rattle.gossip_wire.specs.Frames.{Frames, IsFrame, frame_text};
+ghost use Rattle.gossip_wire.specs.declared.frame.Frame.{Frame};
+ghost use Rattle.gossip_wire.specs.Messages.{IsMessage, SpellsMessage, message_text};
+ghost use Rattle.gossip_wire.specs.declared.message.Message.{Message};
+
+/// Bytes are at most one message, so what is written reads back.
+pub fn bytes_are_one_message()
+    ensures one { (bytes : List ℕ) (a b : Message)
+        → SpellsMessage a bytes → SpellsMessage b bytes → a ≡ b }
+    ensures back { (a b : Message)
+        → IsMessage a → SpellsMessage b (message_text a) → b ≡ a }
+{}
+
+/// No frame's spelling begins another, and a frame is spelled in one way; so bytes are at most one
+/// list of as many frames, and one rest.
+pub fn no_frame_begins_another()
+    ensures one { (f g : Frame) (a b : List ℕ) → IsFrame f → IsFrame g
+        → frame_text f ++ a ≡ frame_text g ++ b → (f ≡ g) × (a ≡ b) }
+    ensures list { (bytes : List ℕ) (xs ys : List Frame) (a b : List ℕ)
+        → Frames bytes xs a → Frames bytes ys b → length xs ≡ length ys → (xs ≡ ys) × (a ≡ b) }
+{}

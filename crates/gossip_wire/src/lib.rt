@@ -1,0 +1,18 @@
+//! Frames and messages of the gossip protocol: their grammars, readers and writers.
+#![tactic(auto)]
+
+mod fields;
+mod frame;
+mod frame_writing;
+mod laws;
+mod lists;
+mod message;
+mod reading;
+mod writing;
+
+pub use frame::{Body, Frame};
+pub use frame_writing::{WriteFault, write_frame};
+pub use laws::{bytes_are_one_message, no_frame_begins_another};
+pub use message::{Addresses, Message, MessageFault};
+pub use reading::read_message;
+pub use writing::write_message;
