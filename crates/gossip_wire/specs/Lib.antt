@@ -1,3 +1,5 @@
 pub mod Fields
+pub mod FrameReaders
 pub mod Frames
+pub mod Judging
 pub mod Messages

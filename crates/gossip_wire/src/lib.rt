@@ -1,16 +1,22 @@
 //! Frames and messages of the gossip protocol: their grammars, readers and writers.
 #![tactic(auto)]
 
+mod bodies;
 mod fields;
 mod frame;
+mod frame_fault;
+mod frame_reader;
 mod frame_writing;
 mod laws;
 mod lists;
 mod message;
 mod reading;
+mod units;
 mod writing;
 
 pub use frame::{Body, Frame};
+pub use frame_fault::FrameFault;
+pub use frame_reader::FrameReader;
 pub use frame_writing::{WriteFault, write_frame};
 pub use laws::{bytes_are_one_message, no_frame_begins_another};
 pub use message::{Addresses, Message, MessageFault};

@@ -1,0 +1,18 @@
+// Why reading frames stops.
+
+/// Why reading frames stops, and where, in bytes from the first.
+#[derive(Clone, Copy, Debug, PartialEq, Eq)]
+pub enum FrameFault {
+    /// This byte is the first that differs from the magic.
+    BadMagic(u64),
+    /// The number that begins here is not in its shortest spelling.
+    LongVarint(u64),
+    /// The length that begins here is above 65,535.
+    TooLong(u64),
+    /// The stream that begins here is of kind 3.
+    BadKind(u64),
+    /// The payload that begins here is none of its kind.
+    BadBody(u64),
+    /// Memory was refused.
+    NoMemory,
+}
