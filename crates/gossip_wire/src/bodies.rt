@@ -53,8 +53,8 @@ fn gossip_in(alloc: Global, payload: &[u8]) -> Result<Option<Body>, NoMemory>
     }
 }
 
-// Each byte is below 256, as its type says.
-fn are_bytes(bytes: &[u8])
+/// Each byte is below 256, as its type says.
+pub(crate) fn are_bytes(bytes: &[u8])
     ensures { IsBytes bytes.now }
 {
     let _ = bytes;

@@ -11,6 +11,8 @@ mod laws;
 mod lists;
 mod message;
 mod reading;
+#[cfg(test)]
+mod tests;
 mod units;
 mod writing;
 

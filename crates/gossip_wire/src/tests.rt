@@ -1,0 +1,217 @@
+// Messages and frames, against what an independent program made of the same bytes.
+ghost use Rattle.std.specs.Prelude.{IfOk};
+ghost use Rattle.gossip_wire.specs.Frames.{IsBody};
+
+mod frame_rows;
+mod message_rows;
+
+use crate::bodies::are_bytes;
+use crate::{
+    Body, Frame, FrameFault, FrameReader, Message, MessageFault, WriteFault, read_message,
+    write_frame, write_message,
+};
+use rad_base::Bytes;
+use std::alloc::Global;
+use std::test::Fail;
+
+// The bytes of runs of digits.
+fn bytes_of(alloc: Global, runs: &[(&[u8], usize)]) -> Result<Vec<u8>, Fail> {
+    let mut bytes = Vec::new(alloc);
+    for (digits, times) in runs {
+        let run = hex::decode(alloc, *digits)?;
+        for _ in 0..*times {
+            bytes.extend_from_slice(&run)?;
+        }
+    }
+    Ok(bytes)
+}
+
+fn type_of(message: &Message) -> u16 {
+    match message {
+        Message::Hello { .. } => 1,
+        Message::Node { .. } => 2,
+        Message::Inventory { .. } => 4,
+        Message::Refs { .. } => 6,
+        Message::Subscribe { .. } => 8,
+        Message::Ping { .. } => 10,
+        Message::Pong { .. } => 12,
+    }
+}
+
+// The type of the message that the bytes are, which writes them again; 0 where they are none.
+fn kind_of(alloc: Global, bytes: &[u8]) -> Result<u16, Fail> {
+    match read_message(alloc, bytes) {
+        Ok(message) => {
+            let again = write_message(alloc, &message)?;
+            if again.as_slice() == bytes {
+                Ok(type_of(&message))
+            } else {
+                Ok(99)
+            }
+        }
+        Err(MessageFault::BadBody) => Ok(0),
+        Err(MessageFault::NoMemory) => Ok(98),
+    }
+}
+
+// Whether a row's bytes are read so, and no front of a message is one.
+fn is_message_row(alloc: Global, row: &message_rows::Row) -> Result<bool, Fail> {
+    let bytes = bytes_of(alloc, row.runs)?;
+    if row.kind > 0 {
+        for cut in 0..bytes.len() {
+            if kind_of(alloc, &bytes[..cut])? != 0 {
+                return Ok(false);
+            }
+        }
+    }
+    Ok(kind_of(alloc, &bytes)? == row.kind)
+}
+
+// Whether all rows are read so.
+fn are_message_rows(alloc: Global, rows: &[message_rows::Row]) -> Result<bool, Fail> {
+    for row in rows {
+        if !is_message_row(alloc, row)? {
+            return Ok(false);
+        }
+    }
+    Ok(true)
+}
+
+#[test]
+fn messages_are_read_and_written(rt: HostRuntime) -> Result<(), Fail> {
+    let alloc = rt.alloc();
+    assert!(rt; are_message_rows(alloc, message_rows::first())?);
+    assert!(rt; are_message_rows(alloc, message_rows::second())?);
+    assert!(rt; are_message_rows(alloc, message_rows::third())?);
+    assert!(rt; are_message_rows(alloc, message_rows::fourth())?);
+    Ok(())
+}
+
+// What a reader made of pieces: the frames, and how it refused.
+#[derive(Drop)]
+struct Heard {
+    frames: Vec<(u64, u8, u64, u8)>,
+    fault: Option<FrameFault>,
+}
+
+// Adds frames, each as its place, kind, number and side.
+fn hear(heard: &mut Heard, frames: &[(u64, Frame)]) -> Result<(), Fail> {
+    for (place, frame) in frames {
+        let kind = match &frame.body {
+            Body::Control(_) => 0,
+            Body::Gossip(_) => 1,
+            Body::Git(_) => 2,
+        };
+        heard.frames.push((*place, kind, frame.number, frame.side))?;
+    }
+    Ok(())
+}
+
+fn heard_of(alloc: Global, pieces: &[&[u8]]) -> Result<Heard, Fail> {
+    let mut reader = FrameReader::new(alloc);
+    let mut heard = Heard {
+        frames: Vec::new(alloc),
+        fault: None,
+    };
+    for piece in pieces {
+        match reader.feed(alloc, piece) {
+            Ok(frames) => hear(&mut heard, &frames)?,
+            Err(fault) => {
+                if heard.fault.is_none() {
+                    hear(&mut heard, reader.before())?;
+                }
+                heard.fault = Some(fault);
+            }
+        }
+    }
+    Ok(heard)
+}
+
+// Whether pieces are read as a row says.
+fn are_read(alloc: Global, pieces: &[&[u8]], row: &frame_rows::Row) -> Result<bool, Fail> {
+    let heard = heard_of(alloc, pieces)?;
+    Ok(heard.frames.as_slice() == row.frames && heard.fault == row.fault)
+}
+
+// Whether a row's bytes are read so, cut at each place, and byte by byte.
+fn is_frame_row(alloc: Global, row: &frame_rows::Row) -> Result<bool, Fail> {
+    let bytes = bytes_of(alloc, row.runs)?;
+    for cut in 0..=bytes.len() {
+        let (front, back) = bytes.split_at(cut);
+        if !are_read(alloc, &[front, back], row)? {
+            return Ok(false);
+        }
+    }
+    let mut single = Vec::new(alloc);
+    for byte in bytes.chunks(1) {
+        single.push(byte)?;
+    }
+    are_read(alloc, &single, row)
+}
+
+// Whether all rows are read so.
+fn are_frame_rows(alloc: Global, rows: &[frame_rows::Row]) -> Result<bool, Fail> {
+    for row in rows {
+        if !is_frame_row(alloc, row)? {
+            return Ok(false);
+        }
+    }
+    Ok(true)
+}
+
+#[test]
+fn frames_are_read_however_they_are_cut(rt: HostRuntime) -> Result<(), Fail> {
+    let alloc = rt.alloc();
+    assert!(rt; are_frame_rows(alloc, frame_rows::first())?);
+    assert!(rt; are_frame_rows(alloc, frame_rows::second())?);
+    assert!(rt; are_frame_rows(alloc, frame_rows::third())?);
+    assert!(rt; are_frame_rows(alloc, frame_rows::fourth())?);
+    assert!(rt; are_frame_rows(alloc, frame_rows::fifth())?);
+    assert!(rt; are_frame_rows(alloc, frame_rows::sixth())?);
+    Ok(())
+}
+
+// A body of git's bytes.
+fn git(alloc: Global, bytes: &[u8]) -> Result<Body, Fail>
+    ensures { IfOk result (λ body. IsBody body) }
+{
+    are_bytes(bytes);
+    Ok(Body::Git(Bytes::copy_of(alloc, bytes)?))
+}
+
+#[test]
+fn frames_are_written(rt: HostRuntime) -> Result<(), Fail> {
+    let alloc = rt.alloc();
+    let ping = Frame {
+        number: 0,
+        side: 0,
+        body: Body::Gossip(Message::Ping { pong: 4, zeros: 0 }),
+    };
+    assert_eq!(rt;
+        write_frame(alloc, &ping)?,
+        hex::decode(alloc, b"726164010206000a00040000")?
+    );
+    let pong = Frame {
+        number: 0,
+        side: 1,
+        body: Body::Gossip(Message::Pong { zeros: 4 }),
+    };
+    assert_eq!(rt;
+        write_frame(alloc, &pong)?,
+        hex::decode(alloc, b"726164010308000c000400000000")?
+    );
+    let most = (1 << 59) - 1;
+    for (number, size, fault) in [
+        (most, 65_535, None),
+        (most, 65_536, Some(WriteFault::TooLong)),
+        (most + 1, 0, Some(WriteFault::TooLong)),
+    ] {
+        let frame = Frame {
+            number,
+            side: 1,
+            body: git(alloc, &vec![in alloc; 7u8; size]?)?,
+        };
+        assert_eq!(rt; write_frame(alloc, &frame).err(), fault);
+    }
+    Ok(())
+}
