@@ -5,8 +5,11 @@ ghost use Rattle.gossip_wire.specs.declared.frame.Frame.{Frame};
 ghost use Rattle.gossip_wire.specs.Messages.{IsMessage, SpellsMessage, message_text};
 ghost use Rattle.gossip_wire.specs.declared.message.Message.{Message};
 
-/// Bytes are at most one message, so what is written reads back.
-pub fn bytes_are_one_message()
+/// No message's spelling begins another, and a message is spelled in one way; so bytes are at most
+/// one message, and what is written reads back.
+pub fn no_message_begins_another()
+    ensures front { (a b : Message) (x y : List ℕ) → IsMessage a → IsMessage b
+        → message_text a ++ x ≡ message_text b ++ y → (a ≡ b) × (x ≡ y) }
     ensures one { (bytes : List ℕ) (a b : Message)
         → SpellsMessage a bytes → SpellsMessage b bytes → a ≡ b }
     ensures back { (a b : Message)
