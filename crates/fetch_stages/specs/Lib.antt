@@ -1,0 +1,3 @@
+pub mod Batches
+pub mod Puts
+pub mod Waiting
