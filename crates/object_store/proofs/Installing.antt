@@ -73,10 +73,10 @@ stands_install (Some a) (Some m) None rid of items id remotes caller there risin
 stands_install (Some a) (Some m) (Some b) rid of items id remotes caller there rising up s staged admitted h =
     let now = replay_install rid items id remotes caller in
     let put : IsInstalled (replayed_state rid items) id remotes (state_of b.slice) =
-        subst (λ (x : State). IsInstalled x id remotes (state_of b.slice)) (s.1 ∙ h.state) admitted.1 in
+    subst (λ (x : State). IsInstalled x id remotes (state_of b.slice)) (s.1 ∙ h.state) admitted.1 in
     let all : (state_of b.slice).remotes ≡ replaced (replay rid items).remotes remotes = one_replaced (replay rid items).remotes remotes (state_of b.slice).remotes rising up put.remotes in
     let state : state_of b.slice ≡ record { rid = rid; id = Some id; remotes = replaced (replay rid items).remotes remotes } =
-        (λ i. record { rid = put.rid i; id = put.id i; remotes = all i }) in
+    (λ i. record { rid = put.rid i; id = put.id i; remotes = all i }) in
     record {
       objects = admitted.0 ∙ staged.0 ∙ h.objects ∙ sym (ap (λ (x : Standing). x.objects) now);
       state = state ∙ sym (ap (state_in rid) now);

@@ -119,7 +119,7 @@ module _ {D : Type 0} (reads : D → Option (List ℕ)) (images : D → List ℕ
           stands = stands_more old new core.items item s lawful (k ∙ g.keyring) (e ∙ ap (λ (l : List Entry). l ++ Refused rid why caller ∷ []) g.entries)
               (subst (λ (m : BTreeMap Rid Repository). (q : Rid) → StandsAt (get rid_cmp m q) q items) (sym r)
               (λ q. stands_so (get rid_cmp mid.repositories q) q core.items items (replay_refused q rid core.items why caller) (claimant_stays q core.items item tt)
-                  (each_still old.repositories mid.repositories rid core.items s.each g.others g.same q)));
+              (each_still old.repositories mid.repositories rid core.items s.each g.others g.same q)));
           disk = λ h. subst (λ (l : List Item). Holds reads images new.journal (bodies_of l) (body_in_doubt core.doubt)) (sym (durable_refused core.items rid why caller))
               (subst (λ (x : Journal D). Holds reads images x (bodies_of (durable_part core.items)) (body_in_doubt core.doubt)) (sym (j ∙ g.journal)) h);
         },
@@ -190,7 +190,7 @@ module _ {D : Type 0} (reads : D → Option (List ℕ)) (images : D → List ℕ
         judged,
         verdict,
         subst (λ (l : List ℕ). 2 ^ 40 < old.journal.end + 10 + length l) b
-        (subst (λ (x : Journal D). 2 ^ 40 < x.end + 10 + length body) prepares.journal (full refl)),
+            (subst (λ (x : Journal D). 2 ^ 40 < x.end + 10 + length body) prepares.journal (full refl)),
         not_wrote reads images old ready new core rid s prepares others k caller (install_of rid caller judged) tt lawful body entry b entry_is keeps.Full w,
       )
       not_installed (keeps.Changed change) full w = absurd w

@@ -153,7 +153,7 @@ module _ (keyring : Contents) (rid : Rid) (items : List Item) (id : Oid) (remote
       → Allows (replay rid items).objects keyring (replayed_state rid items) id remotes → IsWholeAdvance remotes verdict
   advance_by (Ok judged) is allows =
       let one : allows.judged ≡ judged =
-          one_judged (replay rid items).objects keyring (replayed_state rid items) (record { id = id; remotes = remotes }) All allows.judged judged allows.is is in
+      one_judged (replay rid items).objects keyring (replayed_state rid items) (record { id = id; remotes = remotes }) All allows.judged judged allows.is is in
       subst (λ (j : Judged). IsWholeAdvance remotes (Ok j)) one (allows.fresh, allows.same)
   advance_by (Err whole) is allows =
       absurd (judged_or_refused (replay rid items).objects keyring (replayed_state rid items) (record { id = id; remotes = remotes }) All allows.judged whole allows.is is)

@@ -14,11 +14,11 @@ ghost use Rattle.legal_history.specs.Cores.{Core};
 ghost use Rattle.object_store.specs.Installs.{HasFew, HasStagedInstall, IsVerdictAt};
 ghost use Rattle.object_store.specs.Repositories.{HasStagedPut, IsIdle, IsPrepared, IsSame, own_rid};
 
-use crate::replayed::{ReadFault, read_all};
-use crate::{ClaimFault, StoreFault, Why};
 use crate::install::{judge_at, stage_install_at};
 use crate::missed::into_missed;
+use crate::replayed::{ReadFault, read_all};
 use crate::repository::{Repository, admit_at, claim_at, stage_put_at, unstage_at};
+use crate::{ClaimFault, StoreFault, Why};
 use entry_bodies::{install_body, put_body};
 use keyring::Keyring;
 use rad_base::{NoMemory, Offer, Remotes, Rid};

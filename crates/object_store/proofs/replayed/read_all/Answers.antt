@@ -10,10 +10,10 @@ returns-in-Ok-None-clause-reading g c =
     let walk = c.walking.invariant.walk in
     let rises = rw c.in-Some.is at c.in-Ok.ensures.rises in
     λ bodies h.
-          let was = c.walking.invariant.held bodies h in
-          let begins = walk.begins bodies h in
-          no_entry bodies c.scan.new.into.items c.walking.place c.in-Some.gate walk.items walk.had_bodies (rw (c.in-Ok-None.field-0-is, c.deref.ensures.value) at c.in-Ok-None.ensures.none)
-          begins (met g.D.Disk.reads_as g.D.Disk.images c.walking.journal c.walking.place c.in-Some.gate c.in-Ok.next c.scan.new.into.items bodies walk.items c.in-Some.is rises.0 rises.1 c.in-Ok.ensures.body was begins)
+    let was = c.walking.invariant.held bodies h in
+    let begins = walk.begins bodies h in
+    no_entry bodies c.scan.new.into.items c.walking.place c.in-Some.gate walk.items walk.had_bodies (rw (c.in-Ok-None.field-0-is, c.deref.ensures.value) at c.in-Ok-None.ensures.none)
+    begins (met g.D.Disk.reads_as g.D.Disk.images c.walking.journal c.walking.place c.in-Some.gate c.in-Ok.next c.scan.new.into.items bodies walk.items c.in-Some.is rises.0 rises.1 c.in-Ok.ensures.body was begins)
 
 pub walking-preserved : goal.walking-preserved
 walking-preserved g c =
@@ -38,17 +38,23 @@ walking-preserved g c =
 
 pub returns-in-Some-illegal-clause-reading : goal.returns-in-Some-illegal-clause-reading
 returns-in-Some-illegal-clause-reading g c =
-    let walk = c.walking.invariant.walk in
-    (walk.items, walk.had_bodies, rw c.in-Some-illegal.is at walk.had,
+    let walk = c.walking.invariant.walk in (
+      walk.items,
+      walk.had_bodies,
+      rw c.in-Some-illegal.is at walk.had,
       λ bodies h. ended g.D.Disk.reads_as g.D.Disk.images c.walking.journal c.walking.place c.in-Ok.next c.scan.new.into.items bodies walk.items c.in_default.is c.in-Ok.ensures.body
-          (c.walking.invariant.held bodies h) (walk.begins bodies h))
+          (c.walking.invariant.held bodies h) (walk.begins bodies h),
+    )
 
 pub returns-in-None-clause-reading : goal.returns-in-None-clause-reading
 returns-in-None-clause-reading g c =
-    let walk = c.walking.invariant.walk in
-    (walk.items, walk.had_bodies, had_all c.args.keyring.now c.walking.read c.walking.read.illegal walk.items c.in-None.is walk.had,
+    let walk = c.walking.invariant.walk in (
+      walk.items,
+      walk.had_bodies,
+      had_all c.args.keyring.now c.walking.read c.walking.read.illegal walk.items c.in-None.is walk.had,
       λ bodies h. ended g.D.Disk.reads_as g.D.Disk.images c.walking.journal c.walking.place c.in-Ok.next c.scan.new.into.items bodies walk.items c.in_default.is c.in-Ok.ensures.body
-          (c.walking.invariant.held bodies h) (walk.begins bodies h))
+          (c.walking.invariant.held bodies h) (walk.begins bodies h),
+    )
 
 pub returns-in-Err-DiskFault-clause-keeps : goal.returns-in-Err-DiskFault-clause-keeps
 returns-in-Err-DiskFault-clause-keeps g c = λ bodies h. c.scan.ensures.keeps bodies None (c.walking.invariant.held bodies h)

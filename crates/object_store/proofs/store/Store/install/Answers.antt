@@ -13,8 +13,8 @@ pub returns-in_err-judged-clause-events : goal.returns-in_err-judged-clause-even
 returns-in_err-judged-clause-events g c =
     let p = err_from_is_err_and c.from_residual.result c.from_residual.ensures.1 in
     rw (p.1, p.2) (λ core s.
-        judged_nothing g.D.Disk.reads_as g.D.Disk.images c.args.self.now c.judge.new.self core c.args.rid.now s c.in_err-judged.ensures.keyring c.in_err-judged.ensures.entries
-        c.in_err-judged.ensures.journal c.in_err-judged.ensures.others c.in_err-judged.ensures.same)
+    judged_nothing g.D.Disk.reads_as g.D.Disk.images c.args.self.now c.judge.new.self core c.args.rid.now s c.in_err-judged.ensures.keyring c.in_err-judged.ensures.entries
+    c.in_err-judged.ensures.journal c.in_err-judged.ensures.others c.in_err-judged.ensures.same)
 
 pub returns-in-Err-clause-events : goal.returns-in-Err-clause-events
 returns-in-Err-clause-events g c = λ core s.
@@ -48,15 +48,15 @@ pub returns-in_err-next-clause-events : goal.returns-in_err-next-clause-events
 returns-in_err-next-clause-events g c =
     let p = err_from_is_err_and c.from_residual-in_err-next.result c.from_residual-in_err-next.ensures.1 in
     rw (p.1, p.2) (λ core s.
-        judged_nothing g.D.Disk.reads_as g.D.Disk.images c.args.self.now c.judge.new.self core c.args.rid.now s c.in_ok-judged.ensures.keyring c.in_ok-judged.ensures.entries
-        c.in_ok-judged.ensures.journal c.in_ok-judged.ensures.others c.in_ok-judged.ensures.same)
+    judged_nothing g.D.Disk.reads_as g.D.Disk.images c.args.self.now c.judge.new.self core c.args.rid.now s c.in_ok-judged.ensures.keyring c.in_ok-judged.ensures.entries
+    c.in_ok-judged.ensures.journal c.in_ok-judged.ensures.others c.in_ok-judged.ensures.same)
 
 pub returns-in_err-entry-clause-events : goal.returns-in_err-entry-clause-events
 returns-in_err-entry-clause-events g c =
     let p = err_from_is_err_and c.from_residual-in_err-entry.result c.from_residual-in_err-entry.ensures.1 in
     rw (p.1, p.2) (λ core s.
-        prepared_nothing g.D.Disk.reads_as g.D.Disk.images c.args.self.now c.prepare_install.new.self core c.args.rid.now s
-        (prepares g.D.Disk.reads_as g.D.Disk.images c.args.self.now c.judge.new.self c.args.rid.now c.args.offer.now c.args.scope.now c.in-Ok.judged c.args.caller
+    prepared_nothing g.D.Disk.reads_as g.D.Disk.images c.args.self.now c.prepare_install.new.self core c.args.rid.now s
+    (prepares g.D.Disk.reads_as g.D.Disk.images c.args.self.now c.judge.new.self c.args.rid.now c.args.offer.now c.args.scope.now c.in-Ok.judged c.args.caller
     c.requires.claimed (record {
       journal = c.in_ok-judged.ensures.journal;
       keyring = c.in_ok-judged.ensures.keyring;
@@ -65,20 +65,20 @@ returns-in_err-entry-clause-events g c =
       same = c.in_ok-judged.ensures.same;
       told = rw c.in-Ok.is at c.in_ok-judged.ensures.told;
     }) c.next_of.ensures.rising
-        c.prepare_install.new.self (record {
+    c.prepare_install.new.self (record {
       journal = c.in_err-entry.ensures.journal;
       keyring = c.in_err-entry.ensures.keyring;
       entries = ap (λ (h : History). h.entries.items) c.in_err-entry.ensures.history;
       others = c.in_err-entry.ensures.others;
       same = c.in_err-entry.ensures.same;
     }))
-        (λ idle. c.in_err-entry.ensures.idle (subst IsIdle (sym c.in_ok-judged.ensures.same) idle)))
+    (λ idle. c.in_err-entry.ensures.idle (subst IsIdle (sym c.in_ok-judged.ensures.same) idle)))
 
 pub returns-in_err-write-clause-events : goal.returns-in_err-write-clause-events
 returns-in_err-write-clause-events g c =
     let p = err_from_is_err_and c.from_residual-in_err-write.result c.from_residual-in_err-write.ensures.1 in
     rw (p.1, p.2) (λ core s.
-        not_installed g.D.Disk.reads_as g.D.Disk.images c.args.self.now c.judge.new.self c.args.rid.now c.args.offer.now c.args.scope.now c.in-Ok.judged c.args.caller
+    not_installed g.D.Disk.reads_as g.D.Disk.images c.args.self.now c.judge.new.self c.args.rid.now c.args.offer.now c.args.scope.now c.in-Ok.judged c.args.caller
     c.requires.claimed (record {
       journal = c.in_ok-judged.ensures.journal;
       keyring = c.in_ok-judged.ensures.keyring;
@@ -87,17 +87,17 @@ returns-in_err-write-clause-events g c =
       same = c.in_ok-judged.ensures.same;
       told = rw c.in-Ok.is at c.in_ok-judged.ensures.told;
     }) c.next_of.ensures.rising
-        c.prepare_install.new.self (record {
+    c.prepare_install.new.self (record {
       journal = c.in_ok-entry.ensures.journal;
       keyring = c.in_ok-entry.ensures.keyring;
       entries = ap (λ (h : History). h.entries.items) c.in_ok-entry.ensures.history;
       others = c.in_ok-entry.ensures.others;
       same = c.in_ok-entry.ensures.same;
     }) c.write.new.self core s c.in_err-write.ensures.others c.in_err-write.ensures.keyring
-        c.in_ok-entry.parcel c.in_ok-entry.entry (rw (c.in_ok-next.ensures.next.0, c.in_ok-next.ensures.next.1) at c.in_ok-entry.ensures.parcel)
-        (rw (c.in_ok-next.ensures.next.0, c.in_ok-next.ensures.next.1) at c.in_ok-entry.ensures.entry)
-        (rw (c.in_ok-next.ensures.next.0, c.in_ok-next.ensures.next.1) at c.in_ok-entry.ensures.staged) c.in_err-write.field-0.0
-        (λ full. c.in_err-write.ensures.full.0 (ap Err full)) c.in_err-write.ensures.fault)
+    c.in_ok-entry.parcel c.in_ok-entry.entry (rw (c.in_ok-next.ensures.next.0, c.in_ok-next.ensures.next.1) at c.in_ok-entry.ensures.parcel)
+    (rw (c.in_ok-next.ensures.next.0, c.in_ok-next.ensures.next.1) at c.in_ok-entry.ensures.entry)
+    (rw (c.in_ok-next.ensures.next.0, c.in_ok-next.ensures.next.1) at c.in_ok-entry.ensures.staged) c.in_err-write.field-0.0
+    (λ full. c.in_err-write.ensures.full.0 (ap Err full)) c.in_err-write.ensures.fault)
 
 pub returns-clause-events : goal.returns-clause-events
 returns-clause-events g c = λ core s.

@@ -7,14 +7,14 @@ pub returns-in_err-entry-clause-events : goal.returns-in_err-entry-clause-events
 returns-in_err-entry-clause-events g c =
     let p = err_from_is_err_and c.from_residual.result c.from_residual.ensures.1 in
     rw (p.1, p.2) (λ core s.
-        prepared_nothing g.D.Disk.reads_as g.D.Disk.images c.args.self.now c.prepare_put.new.self core c.args.rid.now s
-        (record {
-          journal = c.in_err-entry.ensures.journal;
-          keyring = c.in_err-entry.ensures.keyring;
-          entries = c.in_err-entry.ensures.entries;
-          others = c.in_err-entry.ensures.others;
-          same = c.in_err-entry.ensures.same;
-        }) c.in_err-entry.ensures.idle)
+    prepared_nothing g.D.Disk.reads_as g.D.Disk.images c.args.self.now c.prepare_put.new.self core c.args.rid.now s
+    (record {
+      journal = c.in_err-entry.ensures.journal;
+      keyring = c.in_err-entry.ensures.keyring;
+      entries = c.in_err-entry.ensures.entries;
+      others = c.in_err-entry.ensures.others;
+      same = c.in_err-entry.ensures.same;
+    }) c.in_err-entry.ensures.idle)
 
 pub returns-clause-events : goal.returns-clause-events
 returns-clause-events g c = λ core s.
