@@ -23,7 +23,7 @@ use Rattle.repo_slice.specs.declared.state.State.{State}
 use Rattle.repo_slice.specs.declared.verdict.Judged.{Judged}
 use Rattle.repo_slice.proofs.GrowingSlices.{good_grows}
 use Rattle.repo_slice.proofs.NextStates.{next_good}
-use Rattle.slice_keep.specs.SliceKeeps.{Kept, constants_of, held_of}
+use Rattle.slice_keep.specs.SliceKeeps.{Kept, keep_constants, held_of}
 
 -- objects behind others
 pub objects_behind : (xs ys : List Object) (oid : Oid) → objects_in (xs ++ ys) oid ≡ option_or (objects_in xs oid) (objects_in ys oid)
@@ -64,8 +64,8 @@ same_rid : (a b : Rid) → IsTrue (is_eq (rid_cmp a b)) → a ≡ b
 same_rid a b e = (λ i. record { 0 = oid_exact a.0 b.0 (equal_from_is_eq (rid_cmp a b) e) i })
 
 -- a call leaves the other repositories, of which the keep has none
-pub leaves_others : (rid : Rid) (old new : Kept) (loan faults : Kept → ℕ) → constants_of new ≡ constants_of old → loan new ≡ loan old → faults old ≤ faults new
-    → IsTrue ((constants_of old).stands rid) → LeavesOthers constants_of loan faults (λ kept other. held_of kept) rid old new
+pub leaves_others : (rid : Rid) (old new : Kept) (loan faults : Kept → ℕ) → keep_constants new ≡ keep_constants old → loan new ≡ loan old → faults old ≤ faults new
+    → IsTrue ((keep_constants old).stands rid) → LeavesOthers keep_constants loan faults (λ kept other. held_of kept) rid old new
 leaves_others rid old new loan faults constants same later stands = record {
   constants_stay = constants;
   loan_stays = same;
@@ -74,5 +74,5 @@ leaves_others rid old new loan faults constants same later stands = record {
 }
 
 -- the constants of a keep whose keyring and repository stay
-pub constants_same : (old new : Kept) → new.keyring ≡ old.keyring → (state_of new.slice).rid ≡ (state_of old.slice).rid → constants_of new ≡ constants_of old
+pub constants_same : (old new : Kept) → new.keyring ≡ old.keyring → (state_of new.slice).rid ≡ (state_of old.slice).rid → keep_constants new ≡ keep_constants old
 constants_same old new keyring rid = (λ i. record { keyring = keyring i; caller = 1; stands = λ other. is_eq (rid_cmp other (rid i)) })

@@ -9,7 +9,7 @@ use Rattle.repo_slice.specs.declared.keep_fault.KeepFault.TheVariants as fault
 use Rattle.repo_slice.specs.Keeps.{Makes, MayLeave, StopsIn}
 use Rattle.slice_keep.specs.declared.made.Made.{Made}
 use Rattle.slice_keep.specs.declared.made.Made.TheVariants as made
-use Rattle.slice_keep.specs.SliceKeeps.{Kept, item_made, items_of}
+use Rattle.slice_keep.specs.SliceKeeps.{Kept, item_noted, noted_items}
 
 no_memory_is_not_full : fault.NoMemory ≡ fault.Full → ⊥
 no_memory_is_not_full e = cc e
@@ -23,12 +23,12 @@ nothing_left (item ∷ more) = inl refl
 
 -- the relation of a keep to its entries
 abbrev pub has_made : Kept → List Item → Type 0
-has_made kept before = before ≡ items_of kept
+has_made kept before = before ≡ noted_items kept
 
 -- one more was made
-pub makes_one : (old new : Kept) (one : Made) → new.made ≡ old.made ++ one ∷ [] → Makes has_made old new (item_made one ∷ [])
+pub makes_one : (old new : Kept) (one : Made) → new.made ≡ old.made ++ one ∷ [] → Makes has_made old new (item_noted one ∷ [])
 makes_one old new one grown = λ before h.
-    ap (λ (l : List Item). l ++ item_made one ∷ []) h ∙ sym (map-append item_made old.made (one ∷ [])) ∙ ap (λ (l : List Made). map item_made l) (sym grown)
+    ap (λ (l : List Item). l ++ item_noted one ∷ []) h ∙ sym (map-append item_noted old.made (one ∷ [])) ∙ ap (λ (l : List Made). map item_noted l) (sym grown)
 
 -- memory was refused, and nothing was made
 pub stops_for_memory : (rid : Rid) (old new : Kept) (entries : List Item) → new.made ≡ old.made → StopsIn has_made rid 1 8 old new entries fault.NoMemory
@@ -43,7 +43,7 @@ stops_for_memory rid old new entries same = (
     full = λ e. absurd (no_memory_is_not_full e);
     history_is = refl;
   },
-  λ before h. append-nil before ∙ h ∙ ap (λ (l : List Made). map item_made l) (sym same),
+  λ before h. append-nil before ∙ h ∙ ap (λ (l : List Made). map item_noted l) (sym same),
 )
 
 -- the call was missed

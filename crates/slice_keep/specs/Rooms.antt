@@ -4,5 +4,5 @@ use Rattle.std.specs.Vec.{vec_capacity, vec_len}
 use Rattle.slice_keep.specs.declared.made.Noted.{Noted}
 
 -- there is room for one more
-abbrev pub HasRoom : Noted → Type 0
-HasRoom noted = vec_len noted.items < vec_capacity noted.items
+abbrev pub HasRoomForOne : Noted → Type 0
+HasRoomForOne noted = vec_len noted.items < vec_capacity noted.items

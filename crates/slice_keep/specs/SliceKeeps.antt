@@ -26,23 +26,23 @@ abbrev pub IsKeptGood : Kept → Type 0
 IsKeptGood kept = IsGood (objects_of kept.slice) kept.keyring (state_of kept.slice)
 
 -- the entry of what was made
-abbrev pub item_made : Made → Item
-item_made (made.Put rid batch) = put rid batch 1
-item_made (made.Install rid offer) = install rid offer.id offer.remotes 1
-item_made (made.Refused rid why) = refused rid why 1
-item_made (made.Missed rid) = missed (Some rid) Nothing 1
+abbrev pub item_noted : Made → Item
+item_noted (made.Put rid batch) = put rid batch 1
+item_noted (made.Install rid offer) = install rid offer.id offer.remotes 1
+item_noted (made.Refused rid why) = refused rid why 1
+item_noted (made.Missed rid) = missed (Some rid) Nothing 1
 
 -- the entries that the keep has made
-abbrev pub items_of : Kept → List Item
-items_of kept = map item_made kept.made
+abbrev pub noted_items : Kept → List Item
+noted_items kept = map item_noted kept.made
 
 -- what it has of its repository, its objects told
 abbrev pub held_of : Kept → Held
 held_of kept = record { state = state_of kept.slice; objects = Some (objects_of kept.slice) }
 
 -- by its keyring, with the number 1, for its repository alone
-abbrev pub constants_of : Kept → Constants
-constants_of kept = record {
+abbrev pub keep_constants : Kept → Constants
+keep_constants kept = record {
   keyring = kept.keyring;
   caller = 1;
   stands = λ rid. is_eq (rid_cmp rid (state_of kept.slice).rid);

@@ -1,6 +1,6 @@
 // What the calls of a keep made.
 ghost use Rattle.std.specs.Prelude.{◌≡◌, ◌∷◌, ◌++◌, [], OnErr, OnOk};
-ghost use Rattle.slice_keep.specs.Rooms.{HasRoom};
+ghost use Rattle.slice_keep.specs.Rooms.{HasRoomForOne};
 
 use rad_base::{NoMemory, Offer, Rid};
 use repo_entries::{Batch, Whole};
@@ -43,7 +43,7 @@ impl Noted {
     /// Takes the memory of one more. `NoMemory`: it was refused.
     pub(crate) fn make_room(&mut self) -> Result<(), NoMemory>
         ensures same { self.new.items.items ≡ self.old.items.items }
-        ensures room { OnOk result (HasRoom self.new) }
+        ensures room { OnOk result (HasRoomForOne self.new) }
     {
         self.items.reserve(1)?;
         Ok(())
@@ -51,7 +51,7 @@ impl Noted {
 
     /// Adds one at the end, for which there is room.
     pub(crate) fn add(&mut self, one: Made)
-        requires { HasRoom self.old }
+        requires { HasRoomForOne self.old }
         ensures { self.new.items.items ≡ self.old.items.items ++ one ∷ [] }
     {
         let _pushed = self.items.push(one);

@@ -2,7 +2,7 @@
 ghost use Rattle.std.specs.Prelude.{◌≡◌, ◌≤◌, ◌∷◌, ◌++◌, [], None, OnOk, OnErr};
 ghost use Rattle.rad_base.specs.Faults.{Rose};
 ghost use Rattle.repo_slice.specs.Slices.{state_of};
-ghost use Rattle.slice_keep.specs.SliceKeeps.{held_of, items_of};
+ghost use Rattle.slice_keep.specs.SliceKeeps.{held_of, noted_items};
 
 use crate::made::{Made, Noted};
 use crate::names::names_of;
@@ -54,7 +54,7 @@ impl SliceKeep {
     /// A keep of an empty slice of this repository, whose puts fail behind so many. It takes no
     /// memory.
     pub fn new(alloc: Global, rid: &Rid, keyring: Keyring, puts: u64) -> Self
-        ensures entries { items_of result ≡ [] }
+        ensures entries { noted_items result ≡ [] }
         ensures state { state_of result.slice ≡ record { rid = rid.now; id = None; remotes = [] } }
         ensures keyring { result.keyring ≡ keyring }
     {
@@ -100,13 +100,13 @@ impl SliceKeep {
 
 impl Keep for SliceKeep {
     ghost use Rattle.std.specs.Prelude.{◌≡◌};
-    ghost use Rattle.slice_keep.specs.SliceKeeps.{constants_of, held_of, items_of};
+    ghost use Rattle.slice_keep.specs.SliceKeeps.{keep_constants, held_of, noted_items};
 
-    ghost made = { λ keep before. before ≡ items_of keep };
+    ghost made = { λ keep before. before ≡ noted_items keep };
 
     ghost held = { λ keep _. held_of keep };
 
-    ghost constants = { λ keep. constants_of keep };
+    ghost constants = { λ keep. keep_constants keep };
 
     ghost end = { λ _. 8 };
 
