@@ -19,9 +19,9 @@ item_made (made.Refused rid why) = refused rid why 1
 abbrev pub items_of : MemKeep → List Item
 items_of keep = map item_made keep.made.items
 
--- it tells nothing of a repository
+-- of a repository it tells that its identity has its own name, and no remotes and no objects
 abbrev pub told_of : Rid → Held
-told_of rid = record { state = record { rid = rid; id = None; remotes = [] }; objects = None }
+told_of rid = record { state = record { rid = rid; id = Some rid.0; remotes = [] }; objects = None }
 
 -- by a keyring without lines, with the number 1, for every repository
 abbrev pub constants_of : Constants

@@ -20,7 +20,8 @@ pub enum Made {
 }
 
 /// A keep in memory for every repository, which notes what is put, asks for nothing and refuses
-/// each offer. It tells no objects. Behind so many puts each put meets a fault, for tests.
+/// each offer. It tells no objects, and that the identity of each repository has the repository's
+/// name. Behind so many puts each put meets a fault, for tests.
 #[derive(Drop)]
 pub struct MemKeep {
     made: Vec<Made>,
@@ -86,8 +87,10 @@ impl Keep for MemKeep {
 
     ghost loan = { λ _. 0 };
 
-    fn have(&mut self, _rid: &Rid) -> Result<Oids, NoMemory> {
-        Ok(Oids::new(*self.made.allocator()))
+    fn have(&mut self, rid: &Rid) -> Result<Oids, NoMemory> {
+        let mut names = Oids::new(*self.made.allocator());
+        names.push(rid.0)?;
+        Ok(names)
     }
 
     fn wants(

@@ -1,5 +1,4 @@
-// The judging of offers and the putting of batches over slices in memory, which bench/slices times:
-// what each answers, or one of them so many times.
+// The judging of offers and the putting of batches over slices in memory, which bench/slices times.
 #![tactic(auto)]
 
 mod filling;
@@ -8,23 +7,14 @@ mod scene;
 mod tasks;
 
 use std::env;
-use tasks::{TASKS, answer};
+use tasks::{TASKS, Way, perform};
 
-// Prints what each task answers.
-fn answers(rt: &HostRuntime, size: u32) -> Option<()> {
+// Does the tasks of a name, or all of them, and prints what comes of each.
+fn perform_some(rt: &HostRuntime, wanted: Option<&String>, way: Way) -> Option<()> {
     for (name, task) in TASKS {
-        let answer = answer(rt.alloc(), task, size, 1)?;
-        println!(rt; "{name} {answer}").ok()?;
-    }
-    Some(())
-}
-
-// Does a task so many times and prints what it answers, if there is one of this name.
-fn repeat(rt: &HostRuntime, size: u32, wanted: &str, times: u32) -> Option<()> {
-    for (name, task) in TASKS {
-        if name == wanted {
-            let answer = answer(rt.alloc(), task, size, times)?;
-            println!(rt; "{answer}").ok()?;
+        if wanted.is_none_or(|word| word.as_str() == name) {
+            let answer = perform(rt, task, way)?;
+            println!(rt; "{name} {answer}").ok()?;
         }
     }
     Some(())
@@ -38,18 +28,20 @@ fn number_of(word: Option<&String>) -> u32 {
     }
 }
 
-// `slice_times 200` prints what each task answers over a chain of 200 commits, or a slice of 200
-// objects; `slice_times 200 judge_1 10` does that task ten times.
+// `slice_times 200` does each task once over a chain of 200 commits, or a slice of 200 objects;
+// `slice_times 200 judge_1 10` does that task ten times, and is timed.
 fn run(rt: &HostRuntime) -> Option<()> {
     let mut words = Vec::new(rt.alloc());
     for word in env::args(rt).ok()?.skip(1) {
         words.push(word).ok()?;
     }
-    let size = number_of(words.first());
-    match words.get(1) {
-        Some(wanted) => repeat(rt, size, wanted.as_str(), number_of(words.get(2))),
-        None => answers(rt, size),
-    }
+    let wanted = words.get(1);
+    let way = Way {
+        size: number_of(words.first()),
+        times: number_of(words.get(2)),
+        is_timed: wanted.is_some(),
+    };
+    perform_some(rt, wanted, way)
 }
 
 fn main(rt: HostRuntime) {

@@ -79,9 +79,8 @@ impl Scene {
         let keyring = keyring_of(alloc, nodes, &refs)?;
         let refs = filling.add(alloc, Kind::Blob, refs).ok()?;
         let remotes = add_remotes(alloc, &mut filling, nodes, &refs)?;
-        filling.finish(alloc).ok()?;
         Some(Scene {
-            slice: filling.slice,
+            slice: filling.finish(alloc).ok()?,
             offer: Offer { id, remotes },
             keyring,
         })
