@@ -2,7 +2,9 @@ pub mod AnnouncedTexts
 pub mod Appended
 pub mod BodyTexts
 pub mod FieldTexts
+pub mod FrameTexts
 pub mod FramesFed
+pub mod FramesSpelled
 pub mod MessageTexts
 pub mod OneFrame
 pub mod OneMessage

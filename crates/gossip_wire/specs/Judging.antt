@@ -51,7 +51,7 @@ judge_payload stream units payload =
 abbrev pub judge_magic : FrameUnits → List ℕ → Said
 judge_magic units held =
     if starts_with nat_eq magic held
-    then (if nat_lt (length held) 4 then Begins else Ends None (onto units 4 fields.Stream))
+    then (if length held == 4 then Ends None (onto units 4 fields.Stream) else Begins)
     else Breaks (BadMagic (further units.field (length held - 1)))
 
 -- the number of the stream

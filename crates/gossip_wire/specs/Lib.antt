@@ -1,5 +1,6 @@
 pub mod Fields
 pub mod FrameReaders
 pub mod Frames
+pub mod FramesSpelled
 pub mod Judging
 pub mod Messages

@@ -1,7 +1,11 @@
 // Laws of messages and frames.
 ghost use Rattle.std.specs.Prelude.{◌≡◌, ◌++◌, ℕ, List, length};
 ghost use Rattle.gossip_wire.specs.Frames.{Frames, IsFrame, frame_text};
+ghost use Rattle.hex.specs.Hex.{IsBytes};
+ghost use Rattle.gossip_wire.specs.FramesSpelled.{frames_of, rest_of};
+ghost use Rattle.gossip_wire.specs.FrameReaders.{HasReadFrames};
 ghost use Rattle.gossip_wire.specs.declared.frame.Frame.{Frame};
+ghost use Rattle.gossip_wire.specs.declared.frame_reader.FrameReader.{FrameReader};
 ghost use Rattle.gossip_wire.specs.Messages.{IsMessage, SpellsMessage, message_text};
 ghost use Rattle.gossip_wire.specs.declared.message.Message.{Message};
 
@@ -23,4 +27,11 @@ pub fn no_frame_begins_another()
         → frame_text f ++ a ≡ frame_text g ++ b → (f ≡ g) × (a ≡ b) }
     ensures list { (bytes : List ℕ) (xs ys : List Frame) (a b : List ℕ)
         → Frames bytes xs a → Frames bytes ys b → length xs ≡ length ys → (xs ≡ ys) × (a ≡ b) }
+{}
+
+/// What a reader of frames was fed is spelled by the frames that it gave, one behind the other, and
+/// what it was fed of the next one.
+pub fn what_is_read_is_spelled()
+    ensures { (fed : List ℕ) (frames : List (ℕ × Frame)) (reader : FrameReader) → IsBytes fed
+        → HasReadFrames fed frames reader → Frames fed (frames_of frames) (rest_of reader) }
 {}

@@ -118,7 +118,7 @@ fn look_magic(
         let place = units.field.saturating_add(held.len() as u64 - 1);
         return Err(Stop::Broken(FrameBreak::BadMagic(place)));
     }
-    if held.len() < MAGIC.len() {
+    if held.len() != MAGIC.len() {
         return Ok(Look::Short);
     }
     held.clear();
