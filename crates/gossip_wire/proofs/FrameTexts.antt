@@ -75,7 +75,8 @@ some_bytes Two = omega arith
 some_bytes Four = omega arith
 some_bytes Eight = omega arith
 
-varint_some : (n : ℕ) → 0 < length (varint n)
+-- a number has a byte at least
+pub varint_some : (n : ℕ) → 0 < length (varint n)
 varint_some n = let some = some_bytes (shortest n) in omega (arith, varint_size (shortest n) n refl)
 
 -- a number that is read of the bytes, and of no front of them, is all of them

@@ -19,12 +19,12 @@ use Rattle.gossip_wire.specs.declared.units.UnreadFrame.{UnreadFrame}
 use Rattle.gossip_wire.proofs.FrameTexts.{IsGood, IsUnread, begun_text, told, unread_text}
 
 -- bytes in two parts are bytes in each
-first_part : (a b : List ℕ) → IsBytes (a ++ b) → IsBytes a
+pub first_part : (a b : List ℕ) → IsBytes (a ++ b) → IsBytes a
 first_part [] b fits i = omega arith
 first_part (x ∷ a) b fits zero = fits 0
 first_part (x ∷ a) b fits (suc i) = first_part a b (λ j. fits (suc j)) i
 
-second_part : (a b : List ℕ) → IsBytes (a ++ b) → IsBytes b
+pub second_part : (a b : List ℕ) → IsBytes (a ++ b) → IsBytes b
 second_part [] b fits = fits
 second_part (x ∷ a) b fits = second_part a b (λ i. fits (suc i))
 

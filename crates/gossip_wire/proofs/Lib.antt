@@ -4,6 +4,7 @@ pub mod BodyTexts
 pub mod FieldTexts
 pub mod FrameTexts
 pub mod FramesFed
+pub mod FramesRead
 pub mod FramesSpelled
 pub mod MessageTexts
 pub mod OneFrame

@@ -33,7 +33,8 @@ one_payload (Gossip m) (Gossip n) h k e f = ap Gossip (sym (read_back m n h (rec
 one_payload (Git x) (Git y) h k e f = ap Git f
 one_payload x y h k e f = absurd (omega (arith, e))
 
-kind_small : (x : Body) → kind_of x < 3
+-- a kind is 0, 1 or 2
+pub kind_small : (x : Body) → kind_of x < 3
 kind_small (Control x) = omega arith
 kind_small (Gossip m) = omega arith
 kind_small (Git x) = omega arith

@@ -2,7 +2,7 @@
 ghost use Rattle.std.specs.Prelude.{◌≡◌, ◌++◌, ℕ, List, length};
 ghost use Rattle.gossip_wire.specs.Frames.{Frames, IsFrame, frame_text};
 ghost use Rattle.hex.specs.Hex.{IsBytes};
-ghost use Rattle.gossip_wire.specs.FramesSpelled.{frames_of, rest_of};
+ghost use Rattle.gossip_wire.specs.FramesSpelled.{ReadsFrames, frames_of, rest_of};
 ghost use Rattle.gossip_wire.specs.FrameReaders.{HasReadFrames};
 ghost use Rattle.gossip_wire.specs.declared.frame.Frame.{Frame};
 ghost use Rattle.gossip_wire.specs.declared.frame_reader.FrameReader.{FrameReader};
@@ -34,4 +34,11 @@ pub fn no_frame_begins_another()
 pub fn what_is_read_is_spelled()
     ensures { (fed : List ℕ) (frames : List (ℕ × Frame)) (reader : FrameReader) → IsBytes fed
         → HasReadFrames fed frames reader → Frames fed (frames_of frames) (rest_of reader) }
+{}
+
+/// Frames that are spelled one behind the other are read as these frames, each in its place, whatever
+/// stands behind them.
+pub fn what_is_spelled_is_read()
+    ensures { (bytes : List ℕ) (frames : List Frame) (rest : List ℕ) → IsBytes bytes
+        → Frames bytes frames rest → ReadsFrames bytes 0 frames rest }
 {}

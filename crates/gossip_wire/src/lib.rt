@@ -20,7 +20,10 @@ pub use frame::{Body, Frame};
 pub use frame_fault::FrameFault;
 pub use frame_reader::FrameReader;
 pub use frame_writing::{WriteFault, write_frame};
-pub use laws::{no_frame_begins_another, no_message_begins_another, what_is_read_is_spelled};
+pub use laws::{
+    no_frame_begins_another, no_message_begins_another, what_is_read_is_spelled,
+    what_is_spelled_is_read,
+};
 pub use message::{Addresses, Message, MessageFault};
 pub use reading::read_message;
 pub use writing::write_message;
