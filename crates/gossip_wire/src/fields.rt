@@ -1,12 +1,14 @@
 // The fields of messages, at the front or the back of bytes.
-ghost use Rattle.std.specs.Prelude.{◌≡◌, ◌∷◌, ◌++◌, ◌<◌, ◌≤◌, ◌↔◌, ◌^◌, ℕ, List, IsTrue, length, replicate, IfSome, IfNone};
+ghost use Rattle.std.specs.Prelude.{◌≡◌, ◌∷◌, ◌++◌, ◌<◌, ◌≤◌, ◌↔◌, ◌^◌, ℕ, List, IsTrue, length};
+ghost use Rattle.std.specs.Prelude.{replicate, IfSome, IfNone};
 ghost use Rattle.std.specs.Int.{to_be_bytes, w64};
 ghost use Rattle.std.specs.List.{AllPass};
 ghost use Rattle.std.specs.Str.{IsUtf8};
 ghost use Rattle.rad_base.specs.Sizes.{HasBytes};
 ghost use Rattle.rad_base.specs.declared.names.Nid.{Nid};
 ghost use Rattle.rad_base.specs.declared.names.Sig.{Sig};
-ghost use Rattle.gossip_wire.specs.Fields.{IsAddress, IsAlias, is_address_byte, is_alias_byte, sized, zeros_text};
+ghost use Rattle.gossip_wire.specs.Fields.{IsAddress, IsAlias, is_address_byte, is_alias_byte};
+ghost use Rattle.gossip_wire.specs.Fields.{sized, zeros_text};
 ghost use Rattle.gossip_wire.specs.Messages.{IsSigned, signed_text};
 
 use rad_base::{Nid, Sig, eight_bytes_front, nid_front, sig_front, two_bytes_front};

@@ -1,7 +1,10 @@
 // Reading frames from bytes that come in pieces.
-ghost use Rattle.std.specs.Prelude.{◌≡◌, ◌++◌, ◌∷◌, ◌<◌, ℕ, List, [], None, Some, Ok, Err, IfSome, IfNone, IfOk, IfErr, OnOk, length};
+ghost use Rattle.std.specs.Prelude.{◌≡◌, ◌++◌, ◌∷◌, ◌<◌, ℕ, List, [], None, Some, Ok, Err, IfSome};
+ghost use Rattle.std.specs.Prelude.{IfNone, IfOk, IfErr, OnOk, length};
 ghost use Rattle.unit_reader.specs.Units.{Turned};
-ghost use Rattle.gossip_wire.specs.FrameReaders.{AddsFrame, BreaksAs, BreaksBehind, GaveFrames, HasReadFrames, RefusesFrame, fault_of, frames_from};
+ghost use Rattle.gossip_wire.specs.FrameReaders.{AddsFrame, BreaksAs, BreaksBehind, GaveFrames};
+ghost use Rattle.gossip_wire.specs.FrameReaders.{HasReadFrames, RefusesFrame, fault_of};
+ghost use Rattle.gossip_wire.specs.FrameReaders.{frames_from};
 ghost use Rattle.gossip_wire.specs.Judging.{judge, never};
 ghost use Rattle.gossip_wire.specs.declared.frame.Frame.{Frame as Whole};
 
@@ -102,9 +105,9 @@ impl FrameReader {
         }
     }
 
-    /// Reads a piece, and answers the frames that became whole, each with its place in bytes from the
-    /// first. A refusal comes as soon as the bytes show it. After any the answer stays the same,
-    /// whatever is fed.
+    /// Reads a piece, and answers the frames that became whole, each with its place in bytes from
+    /// the first. A refusal comes as soon as the bytes show it. After any the answer stays the
+    /// same, whatever is fed.
     pub fn feed(&mut self, alloc: Global, piece: &[u8]) -> Result<Vec<(u64, Frame)>, FrameFault>
         ensures stopped { IfSome self.old.stop
             (λ fault. (result ≡ Err fault) × (self.new ≡ self.old)) }

@@ -36,8 +36,8 @@ pub fn what_is_read_is_spelled()
         → HasReadFrames fed frames reader → Frames fed (frames_of frames) (rest_of reader) }
 {}
 
-/// Frames that are spelled one behind the other are read as these frames, each in its place, whatever
-/// stands behind them.
+/// Frames that are spelled one behind the other are read as these frames, each in its place,
+/// whatever stands behind them.
 pub fn what_is_spelled_is_read()
     ensures { (bytes : List ℕ) (frames : List Frame) (rest : List ℕ) → IsBytes bytes
         → Frames bytes frames rest → ReadsFrames bytes 0 frames rest }

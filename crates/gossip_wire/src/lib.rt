@@ -1,4 +1,8 @@
 //! Frames and messages of the gossip protocol: their grammars, readers and writers.
+//!
+//! A frame is the magic `72 61 64 01`, the number of its stream and the length of its payload in
+//! the encoding of RFC 9000 section 16, each in its shortest spelling, and the payload. A message
+//! begins with its type in two bytes. Numbers in messages are big-endian.
 #![tactic(auto)]
 
 mod bodies;

@@ -1,9 +1,11 @@
 // The lists in messages.
-ghost use Rattle.std.specs.Prelude.{◌≡◌, ◌∷◌, ◌++◌, ◌≤◌, ◌↔◌, ℕ, List, IsTrue, length, IfOk, IfSome, IfNone};
+ghost use Rattle.std.specs.Prelude.{◌≡◌, ◌∷◌, ◌++◌, ◌≤◌, ◌↔◌, ℕ, List, IsTrue, length, IfOk};
+ghost use Rattle.std.specs.Prelude.{IfSome, IfNone};
 ghost use Rattle.rad_base.specs.declared.names.Rid.{Rid};
 ghost use Rattle.rad_base.specs.Lists.{AreItems};
 ghost use Rattle.rad_base.specs.Order.{IsAboveBy, rid_cmp};
-ghost use Rattle.gossip_wire.specs.Fields.{AreAddresses, AreRising, IsAddress, IsRid, addresses_text, rid_text, sized};
+ghost use Rattle.gossip_wire.specs.Fields.{AreAddresses, AreRising, IsAddress, IsRid};
+ghost use Rattle.gossip_wire.specs.Fields.{addresses_text, rid_text, sized};
 
 use crate::Addresses;
 use crate::fields::address_front;

@@ -52,7 +52,8 @@ fn text_of(alloc: Global, bytes: &[u8]) -> Result<Option<Text>, NoMemory>
 fn read_about(alloc: Global, node: Nid, sig: Sig, bytes: &[u8]) -> Result<Option<Message>, NoMemory>
     requires { IsSigned node sig }
     ensures found { IfOk result (λ found. IfSome found (IsOf 2 (signed_text node sig bytes.now))) }
-    ensures none { IfOk result (λ found. IfNone found (IsOfNone 2 (signed_text node sig bytes.now))) }
+    ensures none { IfOk result (λ found. IfNone found
+        (IsOfNone 2 (signed_text node sig bytes.now))) }
 {
     let Some((features, rest)) = eight_bytes_front(bytes) else {
         return Ok(None);
@@ -83,7 +84,8 @@ fn read_about(alloc: Global, node: Nid, sig: Sig, bytes: &[u8]) -> Result<Option
 fn read_rids(alloc: Global, node: Nid, sig: Sig, bytes: &[u8]) -> Result<Option<Message>, NoMemory>
     requires { IsSigned node sig }
     ensures found { IfOk result (λ found. IfSome found (IsOf 4 (signed_text node sig bytes.now))) }
-    ensures none { IfOk result (λ found. IfNone found (IsOfNone 4 (signed_text node sig bytes.now))) }
+    ensures none { IfOk result (λ found. IfNone found
+        (IsOfNone 4 (signed_text node sig bytes.now))) }
 {
     let Some((count, rest)) = two_bytes_front(bytes) else {
         return Ok(None);
@@ -114,7 +116,8 @@ fn read_remotes(
 ) -> Result<Option<Message>, NoMemory>
     requires { IsSigned node sig }
     ensures found { IfOk result (λ found. IfSome found (IsOf 6 (signed_text node sig bytes.now))) }
-    ensures none { IfOk result (λ found. IfNone found (IsOfNone 6 (signed_text node sig bytes.now))) }
+    ensures none { IfOk result (λ found. IfNone found
+        (IsOfNone 6 (signed_text node sig bytes.now))) }
 {
     let Some((rid, rest)) = oid_front(bytes) else {
         return Ok(None);

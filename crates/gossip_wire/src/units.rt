@@ -3,7 +3,8 @@ ghost use Rattle.std.specs.Prelude.{◌≡◌, ◌<◌, ◌+◌, ◌++◌, ℕ, 
 ghost use Rattle.rad_base.specs.Varint.{varint_in};
 ghost use Rattle.rad_base.specs.declared.varint.Varint.TheVariants as varint;
 ghost use Rattle.unit_reader.specs.Units.{Looks};
-ghost use Rattle.gossip_wire.specs.Judging.{first_unit, judge_length, judge_magic, judge_payload, judge_stream, onto};
+ghost use Rattle.gossip_wire.specs.Judging.{first_unit, judge_length, judge_magic, judge_payload};
+ghost use Rattle.gossip_wire.specs.Judging.{judge_stream, onto};
 
 use rad_base::{Bytes, Varint, read_varint};
 use std::alloc::Global;

@@ -3,7 +3,9 @@ ghost use Rattle.std.specs.Prelude.{◌≡◌, ◌++◌, ◌≤◌, IfOk, OnOk, 
 ghost use Rattle.std.specs.List.{AllByRecursion, flat_map};
 ghost use Rattle.std.specs.Int.{to_be_bytes, w16, w64};
 ghost use Rattle.rad_base.specs.RemoteTexts.{pair_text};
-ghost use Rattle.gossip_wire.specs.Fields.{AreAddresses, IsAbout, IsAddress, IsSubscription, about_text, addresses_text, inventory_text, refs_text, rid_text, sized, subscription_text, zeros_text};
+ghost use Rattle.gossip_wire.specs.Fields.{AreAddresses, IsAbout, IsAddress, IsSubscription};
+ghost use Rattle.gossip_wire.specs.Fields.{about_text, addresses_text, inventory_text, refs_text};
+ghost use Rattle.gossip_wire.specs.Fields.{rid_text, sized, subscription_text, zeros_text};
 ghost use Rattle.gossip_wire.specs.Messages.{IsMessage, body_of, message_text, type_of};
 
 use crate::{Addresses, Message};
