@@ -18,7 +18,7 @@ use Rattle.legal_history.specs.Histories.{Lawful, Legal, LegalFrom}
 use Rattle.legal_history.specs.Replays.{Standing, claimant, is_same, replay, state_in}
 use Rattle.legal_history.proofs.Durables.{durable_claimed}
 use Rattle.object_store.specs.Bodies.{bodies_of, body_in_doubt}
-use Rattle.object_store.specs.Repositories.{IsCauseOf, IsClaimed, StandsAs, StandsAt, claimant_at}
+use Rattle.object_store.specs.Repositories.{IsCauseOf, IsClaimed, StandsAs, StandsKnown, claimant_at}
 use Rattle.object_store.specs.Stores.{IsClaiming, Moves, StandsFor}
 use Rattle.object_store.specs.declared.faults.ClaimFault.{ClaimFault}
 use Rattle.object_store.specs.declared.faults.ClaimFault.TheVariants as faults
@@ -26,7 +26,7 @@ use Rattle.object_store.specs.declared.repository.Repository.{Repository}
 use Rattle.object_store.specs.declared.store.Store.{Store}
 use Rattle.object_store.proofs.Keys.{is_itself, replay_claim, same_or_other}
 use Rattle.object_store.proofs.Moving.{nothing_done, stands_more}
-use Rattle.object_store.proofs.Standing.{each_grown}
+use Rattle.object_store.proofs.Standing.{claimant_told, each_grown}
 
 -- a claim has a caller
 abbrev pub IsRealClaim : Item → Type 0
@@ -69,14 +69,9 @@ claimant_other rid of (install q i r c ∷ items) caller other = claimant_other 
 claimant_other rid of (missed q l c ∷ items) caller other = claimant_other rid of items caller other
 claimant_other rid of (refused q w c ∷ items) caller other = claimant_other rid of items caller other
 
--- who claimed a repository that stands for some entries
-claimant_told : (r : Option Repository) (rid : Rid) (items : List Item) → StandsAt r rid items → claimant_at r ≡ claimant rid items
-claimant_told None rid items h = sym h.1
-claimant_told (Some r) rid items h = h.claimed
-
 -- the repository that was claimed
 stands_claimed : (a b : Option Repository) (rid : Rid) (items : List Item) (caller : ℕ) → AllByRecursion IsRealClaim items → claimant rid items ≡ 0
-    → IsClaimed rid caller a b → StandsAt a rid items → StandsAt b rid (items ++ claim rid caller ∷ [])
+    → IsClaimed rid caller a b → StandsKnown a rid items → StandsKnown b rid (items ++ claim rid caller ∷ [])
 stands_claimed None (Some b) rid items caller real none c h = record {
   objects = c.0.objects ∙ sym (ap (λ (s : Standing). s.objects) (replay_claim rid rid items caller ∙ h.0));
   state = c.0.state ∙ sym (ap (state_in rid) (replay_claim rid rid items caller ∙ h.0));
@@ -115,13 +110,13 @@ claim_ok reads images old new core rid caller some s k j e others unclaimed clai
     }
 
 -- nothing was claimed
-pub each_still : (a b : BTreeMap Rid Repository) (rid : Rid) (items : List Item) → ((q : Rid) → StandsAt (get rid_cmp a q) q items)
+pub each_still : (a b : BTreeMap Rid Repository) (rid : Rid) (items : List Item) → ((q : Rid) → StandsKnown (get rid_cmp a q) q items)
     → ((q : Rid) → (q ≡ rid → ⊥) → get rid_cmp b q ≡ get rid_cmp a q) → get rid_cmp b rid ≡ get rid_cmp a rid
-    → (q : Rid) → StandsAt (get rid_cmp b q) q items
+    → (q : Rid) → StandsKnown (get rid_cmp b q) q items
 each_still a b rid items h others same q = elim (same_or_other q rid) [
   | inl e ↦
-      subst (λ (x : Rid). StandsAt (get rid_cmp b x) x items) (sym e) (subst (λ (r : Option Repository). StandsAt r rid items) (sym same) (h rid))
-  | inr (other, test) ↦ subst (λ (r : Option Repository). StandsAt r q items) (sym (others q other)) (h q)
+      subst (λ (x : Rid). StandsKnown (get rid_cmp b x) x items) (sym e) (subst (λ (r : Option Repository). StandsKnown r rid items) (sym same) (h rid))
+  | inr (other, test) ↦ subst (λ (r : Option Repository). StandsKnown r q items) (sym (others q other)) (h q)
 ]
 
 -- a claim that is refused

@@ -18,13 +18,13 @@ use Rattle.repo_slice.specs.declared.state.State.{State}
 use Rattle.legal_history.specs.Histories.{Legal}
 use Rattle.legal_history.specs.Replays.{Standing, is_same, replay, replayed_state, state_in}
 use Rattle.legal_history.proofs.GoodStandings.{legal_is_good}
-use Rattle.object_store.specs.Installs.{HasFew, HasStagedInstall, IsKnown}
-use Rattle.object_store.specs.Repositories.{IsAdmitted, IsSame, StandsAs, StandsAt}
+use Rattle.object_store.specs.Installs.{HasFew, HasStagedInstall, IsThere}
+use Rattle.object_store.specs.Repositories.{IsAdmitted, IsSame, StandsAs, StandsKnown}
 use Rattle.object_store.specs.declared.repository.Repository.{Repository}
 use Rattle.object_store.proofs.Keys.{claimant_stays, replay_install, same_or_other}
 
 -- an empty repository stands where nothing does
-pub stands_known : (a b : Option Repository) (rid : Rid) (items : List Item) → IsKnown rid a b → StandsAt a rid items → StandsAt b rid items
+pub stands_known : (a b : Option Repository) (rid : Rid) (items : List Item) → IsThere rid a b → StandsKnown a rid items → StandsKnown b rid items
 stands_known None (Some b) rid items k h = record {
   objects = k.0.objects ∙ sym (ap (λ (s : Standing). s.objects) h.0);
   state = k.0.state ∙ sym (ap (state_in rid) h.0);
@@ -32,20 +32,20 @@ stands_known None (Some b) rid items k h = record {
   claimed = k.1 ∙ sym h.1;
 }
 stands_known None None rid items k h = absurd k
-stands_known (Some a) b rid items k h = subst (λ (r : Option Repository). StandsAt r rid items) (sym k) h
+stands_known (Some a) b rid items k h = subst (λ (r : Option Repository). StandsKnown r rid items) (sym k) h
 
 -- it is there then
-pub known_there : (a b : Option Repository) (rid : Rid) → IsKnown rid a b → b ≡ None → ⊥
+pub known_there : (a b : Option Repository) (rid : Rid) → IsThere rid a b → b ≡ None → ⊥
 known_there None (Some b) rid k none = cc none
 known_there None None rid k none = k
 known_there (Some a) b rid k none = cc (k, none)
 
-pub each_known : (a b : BTreeMap Rid Repository) (rid : Rid) (items : List Item) → ((q : Rid) → StandsAt (get rid_cmp a q) q items)
-    → ((q : Rid) → (q ≡ rid → ⊥) → get rid_cmp b q ≡ get rid_cmp a q) → IsKnown rid (get rid_cmp a rid) (get rid_cmp b rid)
-    → (q : Rid) → StandsAt (get rid_cmp b q) q items
+pub each_known : (a b : BTreeMap Rid Repository) (rid : Rid) (items : List Item) → ((q : Rid) → StandsKnown (get rid_cmp a q) q items)
+    → ((q : Rid) → (q ≡ rid → ⊥) → get rid_cmp b q ≡ get rid_cmp a q) → IsThere rid (get rid_cmp a rid) (get rid_cmp b rid)
+    → (q : Rid) → StandsKnown (get rid_cmp b q) q items
 each_known a b rid items h others known q = elim (same_or_other q rid) [
-  | inl e ↦ subst (λ (x : Rid). StandsAt (get rid_cmp b x) x items) (sym e) (stands_known (get rid_cmp a rid) (get rid_cmp b rid) rid items known (h rid))
-  | inr (other, test) ↦ subst (λ (r : Option Repository). StandsAt r q items) (sym (others q other)) (h q)
+  | inl e ↦ subst (λ (x : Rid). StandsKnown (get rid_cmp b x) x items) (sym e) (stands_known (get rid_cmp a rid) (get rid_cmp b rid) rid items known (h rid))
+  | inr (other, test) ↦ subst (λ (r : Option Repository). StandsKnown r q items) (sym (others q other)) (h q)
 ]
 
 -- what is good has few remotes
@@ -59,14 +59,14 @@ stands_good r rid keyring items legal h =
     subst (λ (objects : ObjectMap). IsGood objects keyring (state_of r.slice)) (sym h.objects)
     (subst (λ (state : State). IsGood (replay rid items).objects keyring state) (sym h.state) (legal_is_good keyring rid items legal).good)
 
-pub stands_few : (o : Option Repository) (rid : Rid) (keyring : Contents) (items : List Item) → Legal keyring items → StandsAt o rid items → HasFew o
+pub stands_few : (o : Option Repository) (rid : Rid) (keyring : Contents) (items : List Item) → Legal keyring items → StandsKnown o rid items → HasFew o
 stands_few None rid keyring items legal h = tt
 stands_few (Some r) rid keyring items legal h = few_in (objects_of r.slice) keyring (state_of r.slice) (stands_good r rid keyring items legal h)
 
 -- a repository in which an install was staged and admitted stands for that install more
 pub stands_install : (a m b : Option Repository) (rid of : Rid) (items : List Item) (id : Oid) (remotes : List (Nid × Oid)) (caller : ℕ)
     → (a ≡ None → ⊥) → IsRising (replay rid items).remotes → IsRising remotes → IsSame a m → HasStagedInstall id remotes a m → IsAdmitted (Install of id remotes caller) m b
-    → StandsAt a rid items → StandsAt b rid (items ++ install rid id remotes caller ∷ [])
+    → StandsKnown a rid items → StandsKnown b rid (items ++ install rid id remotes caller ∷ [])
 stands_install None m b rid of items id remotes caller there rising up s staged admitted h = absurd (there refl)
 stands_install (Some a) None b rid of items id remotes caller there rising up s staged admitted h = absurd s
 stands_install (Some a) (Some m) None rid of items id remotes caller there rising up s staged admitted h = absurd admitted

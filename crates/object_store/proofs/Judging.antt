@@ -40,8 +40,8 @@ use Rattle.legal_history.proofs.Durables.{durable_refused}
 use Rattle.legal_history.proofs.GoodStandings.{legal_is_good}
 use Rattle.object_store.specs.Bodies.{bodies_of, body_in_doubt}
 use Rattle.object_store.specs.Installs.{HasFew, HasStagedInstall, IsVerdictAt}
-use Rattle.object_store.specs.Repositories.{IsAdmitted, IsSame, StandsAt, own_rid}
-use Rattle.object_store.specs.Stores.{HasClaimed, IsInstall, IsVerdictOn, LacksRoom, Moves, Stands, StandsFor, install_of}
+use Rattle.object_store.specs.Repositories.{IsAdmitted, IsSame, StandsKnown, own_rid}
+use Rattle.object_store.specs.Stores.{HasClaimed, IsInstall, IsVerdictBehind, LacksRoomFor, Moves, StandsForSome, StandsFor, install_of}
 use Rattle.object_store.specs.Writes.{HasWritten, IsWriteFault}
 use Rattle.object_store.specs.declared.repository.Repository.{Repository}
 use Rattle.object_store.specs.declared.store.Store.{Store}
@@ -77,7 +77,7 @@ advanced_few objects keyring state offer scope judged rising up good is =
     omega (arith, few, longer state.remotes judged.advanced next.remotes up installed.remotes)
 
 -- a repository of a store has few remotes
-pub few_at : {D : Type 0} (store : Store D) (rid : Rid) → Stands store → HasFew (get rid_cmp store.repositories rid)
+pub few_at : {D : Type 0} (store : Store D) (rid : Rid) → StandsForSome store → HasFew (get rid_cmp store.repositories rid)
 few_at store rid stands = stands_few (get rid_cmp store.repositories rid) rid store.keyring stands.0 stands.1.legal (stands.1.each rid)
 
 -- a judging
@@ -100,8 +100,8 @@ judged_nothing reads images old mid core rid s k e j others same =
 module _ {D : Type 0} (reads : D → Option (List ℕ)) (images : D → List ℕ → Type 0) (old mid : Store D) (rid : Rid) (offer : Offer) (scope : Scope) (verdict : Result Judged Whole) (caller : ℕ)
     (c : HasClaimed old rid caller) (g : Judges old mid rid offer scope verdict) where
   -- the verdict on what the entries make of the repository
-  pub told_on : (items : List Item) → StandsFor old items → IsVerdictOn old.keyring items rid offer scope verdict
-  told_on items s = verdict_is (get rid_cmp old.repositories rid) rid old.keyring items offer scope verdict (there (get rid_cmp old.repositories rid) c.repository c.is) s.legal (s.each rid) g.told
+  pub told_on : (items : List Item) → StandsFor old items → IsVerdictBehind old.keyring items rid offer scope verdict
+  told_on items s = verdict_is (get rid_cmp old.repositories rid) rid old.keyring items offer scope verdict (there old rid caller c) s.legal (s.each rid) g.told
 
   -- a whole refusal
   pub judged_refused : (new : Store D) (core : Core) (why : Whole) → verdict ≡ Err why → StandsFor old core.items → new.journal ≡ mid.journal → new.keyring ≡ mid.keyring
@@ -112,12 +112,12 @@ module _ {D : Type 0} (reads : D → Option (List ℕ)) (images : D → List ℕ
       let items = core.items ++ item ∷ [] in
       let lawful : Lawful old.keyring core.items item = claimed_is old core.items rid caller c s in
       let next : Core = record { items = items; doubt = core.doubt } in (
-        subst (λ (x : Result Judged Whole). IsVerdictOn old.keyring core.items rid offer scope x) v (told_on core.items s),
+        subst (λ (x : Result Judged Whole). IsVerdictBehind old.keyring core.items rid offer scope x) v (told_on core.items s),
         record {
           next = next;
           runs = (next, (lawful, refl), refl);
           stands = stands_more old new core.items item s lawful (k ∙ g.keyring) (e ∙ ap (λ (l : List Entry). l ++ Refused rid why caller ∷ []) g.entries)
-              (subst (λ (m : BTreeMap Rid Repository). (q : Rid) → StandsAt (get rid_cmp m q) q items) (sym r)
+              (subst (λ (m : BTreeMap Rid Repository). (q : Rid) → StandsKnown (get rid_cmp m q) q items) (sym r)
               (λ q. stands_so (get rid_cmp mid.repositories q) q core.items items (replay_refused q rid core.items why caller) (claimant_stays q core.items item tt)
               (each_still old.repositories mid.repositories rid core.items s.each g.others g.same q)));
           disk = λ h. subst (λ (l : List Item). Holds reads images new.journal (bodies_of l) (body_in_doubt core.doubt)) (sym (durable_refused core.items rid why caller))
@@ -128,7 +128,7 @@ module _ {D : Type 0} (reads : D → Option (List ℕ)) (images : D → List ℕ
 module _ {D : Type 0} (reads : D → Option (List ℕ)) (images : D → List ℕ → Type 0) (old mid : Store D) (rid : Rid) (offer : Offer) (scope : Scope) (judged : Judged) (caller : ℕ)
     (c : HasClaimed old rid caller) (g : Judges old mid rid offer scope (Ok judged)) (up : IsRising judged.advanced) where
   -- few remotes advance
-  pub few_advance : Stands old → length judged.advanced ≤ 1024
+  pub few_advance : StandsForSome old → length judged.advanced ≤ 1024
   few_advance stands =
       let items = stands.0 in
       let good = legal_is_good old.keyring rid items stands.1.legal in
@@ -159,7 +159,7 @@ module _ {D : Type 0} (reads : D → Option (List ℕ)) (images : D → List ℕ
           en ∙ ap (λ (r : Option Repository). Install (own_rid r rid) judged.next_id judged.advanced caller) g.same
           ∙ ap (λ (x : Rid). Install x judged.next_id judged.advanced caller) (named (get rid_cmp old.repositories rid) rid core.items (s.each rid))
 
-      verdict : IsVerdictOn old.keyring core.items rid offer scope (Ok judged)
+      verdict : IsVerdictBehind old.keyring core.items rid offer scope (Ok judged)
       verdict = told_on reads images old mid rid offer scope (Ok judged) caller c g core.items s
 
       lawful : Lawful old.keyring core.items (install_of rid caller judged)
@@ -168,12 +168,12 @@ module _ {D : Type 0} (reads : D → Option (List ℕ)) (images : D → List ℕ
         claimed_is old core.items rid caller c s,
       )
 
-      grown : IsAdmitted entry (get rid_cmp ready.repositories rid) (get rid_cmp new.repositories rid) → (q : Rid) → StandsAt (get rid_cmp new.repositories q) q (core.items ++ install_of rid caller judged ∷ [])
+      grown : IsAdmitted entry (get rid_cmp ready.repositories rid) (get rid_cmp new.repositories rid) → (q : Rid) → StandsKnown (get rid_cmp new.repositories q) q (core.items ++ install_of rid caller judged ∷ [])
       grown admitted =
           each_grown old.repositories new.repositories rid core.items (install_of rid caller judged) s.each (λ q other. others q other ∙ prepares.others q other)
           (λ q test. (replay_install_other q rid core.items judged.next_id judged.advanced caller test, claimant_stays q core.items (install_of rid caller judged) tt))
           (stands_install (get rid_cmp old.repositories rid) (get rid_cmp ready.repositories rid) (get rid_cmp new.repositories rid) rid rid core.items judged.next_id judged.advanced caller
-          (there (get rid_cmp old.repositories rid) c.repository c.is) (legal_is_good old.keyring rid core.items s.legal).rising up prepares.same
+          (there old rid caller c) (legal_is_good old.keyring rid core.items s.legal).rising up prepares.same
           (subst (λ (r : Option Repository). HasStagedInstall judged.next_id judged.advanced r (get rid_cmp ready.repositories rid)) g.same staged)
           (subst (λ (x : Entry). IsAdmitted x (get rid_cmp ready.repositories rid) (get rid_cmp new.repositories rid)) entry_is admitted) (s.each rid))
 

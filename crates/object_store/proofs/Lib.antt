@@ -1,4 +1,6 @@
 pub mod Claiming
+pub mod Claims
+pub mod Heads
 pub mod Installing
 pub mod Judging
 pub mod Keys
@@ -7,6 +9,7 @@ pub mod Opening
 pub mod Putting
 pub mod Reading
 pub mod Remotes
+pub mod Showing
 pub mod Standing
 pub mod Taking
 pub mod Writing

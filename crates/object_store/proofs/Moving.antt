@@ -22,11 +22,11 @@ use Rattle.legal_history.specs.Histories.{Lawful, Legal}
 use Rattle.legal_history.specs.Replays.{claimant}
 use Rattle.legal_history.proofs.Durables.{durable-append, durable_more, legal_more}
 use Rattle.object_store.specs.Bodies.{bodies_of, body_in_doubt}
-use Rattle.object_store.specs.Entries.{left_by, missed_by}
-use Rattle.object_store.specs.Repositories.{StandsAt}
-use Rattle.object_store.specs.Stores.{HasClaimed, IsOnDisk, IsRefusal, Moves, StandsFor}
+use Rattle.object_store.specs.Entries.{left_by, missed_entry}
+use Rattle.object_store.specs.Repositories.{StandsKnown}
+use Rattle.object_store.specs.Stores.{HasClaimed, IsOnDisk, IsRefusedCall, Moves, StandsFor}
 use Rattle.object_store.specs.declared.store.Store.{Store}
-use Rattle.object_store.proofs.Standing.{each_missed}
+use Rattle.object_store.proofs.Standing.{claimant_told, each_missed}
 
 -- an entry that is read again has its body
 same_body : (item : Item) → body_of (reopened item) ≡ body_of item
@@ -56,9 +56,7 @@ left_is (refused rid why caller) d = absurd d
 
 -- the caller that claimed is the one that the entries tell
 pub claimed_is : {D : Type 0} (store : Store D) (items : List Item) (rid : Rid) (caller : ℕ) → HasClaimed store rid caller → StandsFor store items → caller ≡ claimant rid items
-claimed_is store items rid caller c s =
-    let at : StandsAt (Some c.repository) rid items = subst (λ r. StandsAt r rid items) c.is (s.each rid) in
-    sym c.claimant ∙ at.claimed
+claimed_is store items rid caller c s = sym c.claimant ∙ claimant_told (get rid_cmp store.repositories rid) rid items (s.each rid)
 
 -- the history with one entry more
 pub entries_more : {D : Type 0} (old new : Store D) (items : List Item) (item : Item) → StandsFor old items
@@ -68,7 +66,7 @@ entries_more old new items item s e = e ∙ ap (λ (l : List Entry). l ++ entry_
 -- the store with one lawful entry more
 pub stands_more : {D : Type 0} (old new : Store D) (items : List Item) (item : Item) → StandsFor old items → Lawful old.keyring items item → new.keyring ≡ old.keyring
     → new.history.entries.items ≡ old.history.entries.items ++ entry_of item ∷ []
-    → ((q : Rid) → StandsAt (get rid_cmp new.repositories q) q (items ++ item ∷ [])) → StandsFor new (items ++ item ∷ [])
+    → ((q : Rid) → StandsKnown (get rid_cmp new.repositories q) q (items ++ item ∷ [])) → StandsFor new (items ++ item ∷ [])
 stands_more old new items item s lawful k e each = record {
   entries = entries_more old new items item s e;
   each = each;
@@ -80,7 +78,7 @@ module _ {D : Type 0} (reads : D → Option (List ℕ)) (images : D → List ℕ
   -- an entry that was entered
   pub entered : (item : Item) → IsDurable item → Lawful old.keyring core.items item
       → new.history.entries.items ≡ old.history.entries.items ++ entry_of item ∷ []
-      → ((q : Rid) → StandsAt (get rid_cmp new.repositories q) q (core.items ++ item ∷ []))
+      → ((q : Rid) → StandsKnown (get rid_cmp new.repositories q) q (core.items ++ item ∷ []))
       → ((bodies : List (List ℕ)) (doubt : Option (List ℕ)) → Holds reads images old.journal bodies doubt → Holds reads images new.journal (bodies ++ body_of item ∷ []) None)
       → Moves reads images old new core (mends ∷ enters item ∷ [])
   entered item durable lawful e each holds =
@@ -97,7 +95,7 @@ module _ {D : Type 0} (reads : D → Option (List ℕ)) (images : D → List ℕ
   -- an entry that is left in doubt
   pub doubted : (rid : Rid) (caller : ℕ) (item : Item) → IsDurable item → Lawful old.keyring core.items item
       → new.history.entries.items ≡ old.history.entries.items ++ Missed (Some rid) (left_of item) caller ∷ []
-      → ((q : Rid) → StandsAt (get rid_cmp new.repositories q) q core.items)
+      → ((q : Rid) → StandsKnown (get rid_cmp new.repositories q) q core.items)
       → ((bodies : List (List ℕ)) (doubt : Option (List ℕ)) → Holds reads images old.journal bodies doubt → Holds reads images new.journal bodies (Some (body_of item)))
       → Moves reads images old new core (mends ∷ doubts (Some rid) caller item ∷ [])
   doubted rid caller item durable lawful e each holds =
@@ -126,7 +124,7 @@ module _ {D : Type 0} (reads : D → Option (List ℕ)) (images : D → List ℕ
 
   -- a fault that leaves nothing new
   missed_nothing : (rid : Rid) (caller : ℕ) → new.history.entries.items ≡ old.history.entries.items ++ Missed (Some rid) lefts.Nothing caller ∷ []
-      → ((q : Rid) → StandsAt (get rid_cmp new.repositories q) q core.items)
+      → ((q : Rid) → StandsKnown (get rid_cmp new.repositories q) q core.items)
       → ((bodies : List (List ℕ)) (doubt : Option (List ℕ)) → Holds reads images old.journal bodies doubt
       → Holds reads images new.journal bodies None ⊎ Holds reads images new.journal bodies doubt)
       → Moves reads images old new core (mends ∷ misses (Some rid) caller ∷ []) ⊎ Moves reads images old new core (misses (Some rid) caller ∷ [])
@@ -162,17 +160,17 @@ module _ {D : Type 0} (reads : D → Option (List ℕ)) (images : D → List ℕ
 
   -- a call that a fault of the disk refused
   pub fault_left : (rid : Rid) (caller : ℕ) (item : Item) (in_doubt : Bool) → IsDurable item → Lawful old.keyring core.items item
-      → new.history.entries.items ≡ old.history.entries.items ++ missed_by (entry_of item) rid caller in_doubt ∷ []
-      → ((q : Rid) → StandsAt (get rid_cmp new.repositories q) q core.items)
+      → new.history.entries.items ≡ old.history.entries.items ++ missed_entry (entry_of item) rid caller in_doubt ∷ []
+      → ((q : Rid) → StandsKnown (get rid_cmp new.repositories q) q core.items)
       → ((bodies : List (List ℕ)) (doubt : Option (List ℕ)) → Holds reads images old.journal bodies doubt
       → LeavesDoubt reads images bodies doubt (body_of item) new.journal (faults.DiskFault in_doubt))
-      → IsRefusal reads images old new core rid caller item DiskFault
+      → IsRefusedCall reads images old new core rid caller item DiskFault
   fault_left rid caller item true durable lawful e each left =
       inl (doubted rid caller item durable lawful (e ∙ ap (λ (l : Left). old.history.entries.items ++ Missed (Some rid) l caller ∷ []) (left_is item durable)) each left)
   fault_left rid caller item false durable lawful e each left = inr (missed_nothing rid caller e each left)
 
   -- nothing happened
-  pub nothing_done : new.history.entries.items ≡ old.history.entries.items → new.journal ≡ old.journal → ((q : Rid) → StandsAt (get rid_cmp new.repositories q) q core.items)
+  pub nothing_done : new.history.entries.items ≡ old.history.entries.items → new.journal ≡ old.journal → ((q : Rid) → StandsKnown (get rid_cmp new.repositories q) q core.items)
       → Moves reads images old new core []
   nothing_done e j each = record {
     next = core;

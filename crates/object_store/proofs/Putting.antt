@@ -13,7 +13,7 @@ use Rattle.repo_slice.specs.declared.keep_fault.KeepFault.{KeepFault}
 use Rattle.entry_bodies.specs.Bodies.{put_text}
 use Rattle.legal_history.specs.Cores.{Core}
 use Rattle.legal_history.specs.Histories.{Lawful}
-use Rattle.object_store.specs.Repositories.{HasStagedPut, IsAdmitted, StandsAt, own_rid}
+use Rattle.object_store.specs.Repositories.{HasStagedPut, IsAdmitted, StandsKnown, own_rid}
 use Rattle.object_store.specs.Stores.{HasClaimed, IsPut, StandsFor}
 use Rattle.object_store.specs.Writes.{HasWritten, IsWriteFault}
 use Rattle.object_store.specs.declared.store.Store.{Store}
@@ -33,12 +33,12 @@ module _ {D : Type 0} (reads : D → Option (List ℕ)) (images : D → List ℕ
   lawful : Lawful old.keyring core.items (put rid batch caller)
   lawful = (is, claimed_is old core.items rid caller c s)
 
-  grown : IsAdmitted entry (get rid_cmp mid.repositories rid) (get rid_cmp new.repositories rid) → (q : Rid) → StandsAt (get rid_cmp new.repositories q) q (core.items ++ put rid batch caller ∷ [])
+  grown : IsAdmitted entry (get rid_cmp mid.repositories rid) (get rid_cmp new.repositories rid) → (q : Rid) → StandsKnown (get rid_cmp new.repositories q) q (core.items ++ put rid batch caller ∷ [])
   grown admitted =
       each_grown old.repositories new.repositories rid core.items (put rid batch caller) s.each (λ q other. others q other ∙ p.others q other)
       (λ q test. (replay_put_other q rid core.items batch caller test, claimant_stays q core.items (put rid batch caller) tt))
       (stands_put (get rid_cmp old.repositories rid) (get rid_cmp mid.repositories rid) (get rid_cmp new.repositories rid) rid (own_rid (get rid_cmp old.repositories rid) rid) core.items batch caller
-      (there (get rid_cmp old.repositories rid) c.repository c.is) p.same staged
+      (there old rid caller c) p.same staged
       (subst (λ (x : Entry). IsAdmitted x (get rid_cmp mid.repositories rid) (get rid_cmp new.repositories rid)) en admitted) (s.each rid))
 
   -- a put, by what its write answered

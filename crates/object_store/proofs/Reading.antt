@@ -10,7 +10,7 @@ use Rattle.ref_journal.specs.declared.journal.Journal.{Journal}
 use Rattle.repo_entries.specs.Items.{Item}
 use Rattle.entry_bodies.specs.Bodies.{HasBody, SpellsItem, body_of}
 use Rattle.object_store.specs.Bodies.{bodies_of}
-use Rattle.object_store.specs.Opens.{BeginsSo, HasRead, HasReplayed, IsNoEntryAt}
+use Rattle.object_store.specs.Opens.{BeginsSo, HasReplayedSo, HasReplayed, IsNoEntryAt}
 use Rattle.object_store.specs.declared.replayed.Replayed.{Replayed}
 
 -- what a scan says of the body behind a gate
@@ -79,6 +79,6 @@ no_entry bodies into place gate items each none b m = record {
 }
 
 -- where no entry was illegal, all stand
-pub had_all : (keyring : Contents) (read : Replayed) (illegal : Option ℕ) (items : List Item) → illegal ≡ None → HasRead keyring read illegal items → HasReplayed keyring read items
+pub had_all : (keyring : Contents) (read : Replayed) (illegal : Option ℕ) (items : List Item) → illegal ≡ None → HasReplayedSo keyring read illegal items → HasReplayed keyring read items
 had_all keyring read None items e h = h
 had_all keyring read (Some n) items e h = absurd (cc e)

@@ -15,12 +15,12 @@ use Rattle.repo_entries.specs.declared.entry.Left.{Left}
 use Rattle.repo_slice.specs.Slices.{Brings, HasNothingStaged, objects_of, pending_of, state_of}
 use Rattle.repo_slice.specs.declared.state.State.{State}
 use Rattle.legal_history.specs.Replays.{Standing, after_put, claimant, nothing_stands, replay, is_same, state_in, with_objects}
-use Rattle.object_store.specs.Repositories.{HasStagedPut, IsAdmitted, IsIdle, IsSame, StandsAs, StandsAt, own_rid}
+use Rattle.object_store.specs.Repositories.{HasStagedPut, IsAdmitted, IsIdle, IsSame, StandsAs, StandsKnown, claimant_at, own_rid}
 use Rattle.object_store.specs.declared.repository.Repository.{Repository}
 use Rattle.object_store.proofs.Keys.{claimant_stays, replay_missed, replay_put, replay_put_other, same_or_other}
 
 -- a repository stands for a history that makes the same of it
-pub stands_so : (r : Option Repository) (rid : Rid) (old new : List Item) → replay rid new ≡ replay rid old → claimant rid new ≡ claimant rid old → StandsAt r rid old → StandsAt r rid new
+pub stands_so : (r : Option Repository) (rid : Rid) (old new : List Item) → replay rid new ≡ replay rid old → claimant rid new ≡ claimant rid old → StandsKnown r rid old → StandsKnown r rid new
 stands_so None rid old new same claim h = (same ∙ h.0, claim ∙ h.1)
 stands_so (Some r) rid old new same claim h = record {
   objects = h.objects ∙ sym (ap (λ (s : Standing). s.objects) same);
@@ -30,7 +30,7 @@ stands_so (Some r) rid old new same claim h = record {
 }
 
 -- a repository that is the same stands for the same
-pub stands_same : (a b : Option Repository) (rid : Rid) (items : List Item) → IsSame a b → IsIdle b → StandsAt a rid items → StandsAt b rid items
+pub stands_same : (a b : Option Repository) (rid : Rid) (items : List Item) → IsSame a b → IsIdle b → StandsKnown a rid items → StandsKnown b rid items
 stands_same None None rid items s idle h = h
 stands_same (Some a) (Some b) rid items s idle h = record {
   objects = s.0 ∙ h.objects;
@@ -42,7 +42,7 @@ stands_same None (Some b) rid items s idle h = absurd s
 stands_same (Some a) None rid items s idle h = absurd s
 
 -- nothing is staged in what stands
-pub stands_idle : (r : Option Repository) (rid : Rid) (items : List Item) → StandsAt r rid items → IsIdle r
+pub stands_idle : (r : Option Repository) (rid : Rid) (items : List Item) → StandsKnown r rid items → IsIdle r
 stands_idle None rid items h = tt
 stands_idle (Some r) rid items h = h.idle
 
@@ -56,36 +56,36 @@ same_along None None (Some b) s t = absurd t
 same_along (Some a) (Some m) None s t = absurd t
 
 -- a repository that stands has its name
-pub named : (r : Option Repository) (rid : Rid) (items : List Item) → StandsAt r rid items → own_rid r rid ≡ rid
+pub named : (r : Option Repository) (rid : Rid) (items : List Item) → StandsKnown r rid items → own_rid r rid ≡ rid
 named None rid items h = refl
 named (Some r) rid items h = ap (λ (s : State). s.rid) h.state
 
 -- all stand where one is the same and the others stay
-pub each_same : (a b : BTreeMap Rid Repository) (rid : Rid) (items : List Item) → ((q : Rid) → StandsAt (get rid_cmp a q) q items)
+pub each_same : (a b : BTreeMap Rid Repository) (rid : Rid) (items : List Item) → ((q : Rid) → StandsKnown (get rid_cmp a q) q items)
     → ((q : Rid) → (q ≡ rid → ⊥) → get rid_cmp b q ≡ get rid_cmp a q) → IsSame (get rid_cmp a rid) (get rid_cmp b rid) → IsIdle (get rid_cmp b rid)
-    → (q : Rid) → StandsAt (get rid_cmp b q) q items
+    → (q : Rid) → StandsKnown (get rid_cmp b q) q items
 each_same a b rid items h others same idle q = elim (same_or_other q rid) [
-  | inl e ↦ subst (λ (x : Rid). StandsAt (get rid_cmp b x) x items) (sym e) (stands_same (get rid_cmp a rid) (get rid_cmp b rid) rid items same idle (h rid))
-  | inr (other, test) ↦ subst (λ (r : Option Repository). StandsAt r q items) (sym (others q other)) (h q)
+  | inl e ↦ subst (λ (x : Rid). StandsKnown (get rid_cmp b x) x items) (sym e) (stands_same (get rid_cmp a rid) (get rid_cmp b rid) rid items same idle (h rid))
+  | inr (other, test) ↦ subst (λ (r : Option Repository). StandsKnown r q items) (sym (others q other)) (h q)
 ]
 
 -- with one entry more that makes nothing of any
-pub each_missed : (b : BTreeMap Rid Repository) (items : List Item) (of : Option Rid) (left : Left) (caller : ℕ) → ((q : Rid) → StandsAt (get rid_cmp b q) q items)
-    → (q : Rid) → StandsAt (get rid_cmp b q) q (items ++ missed of left caller ∷ [])
+pub each_missed : (b : BTreeMap Rid Repository) (items : List Item) (of : Option Rid) (left : Left) (caller : ℕ) → ((q : Rid) → StandsKnown (get rid_cmp b q) q items)
+    → (q : Rid) → StandsKnown (get rid_cmp b q) q (items ++ missed of left caller ∷ [])
 each_missed b items of left caller h q =
     stands_so (get rid_cmp b q) q items (items ++ missed of left caller ∷ []) (replay_missed q items of left caller) (claimant_stays q items (missed of left caller) tt) (h q)
 
 -- all stand where one has grown and the others stay
-pub each_grown : (a b : BTreeMap Rid Repository) (rid : Rid) (items : List Item) (item : Item) → ((q : Rid) → StandsAt (get rid_cmp a q) q items)
+pub each_grown : (a b : BTreeMap Rid Repository) (rid : Rid) (items : List Item) (item : Item) → ((q : Rid) → StandsKnown (get rid_cmp a q) q items)
     → ((q : Rid) → (q ≡ rid → ⊥) → get rid_cmp b q ≡ get rid_cmp a q)
     → ((q : Rid) → is_same q rid ≡ false → (replay q (items ++ item ∷ []) ≡ replay q items) × (claimant q (items ++ item ∷ []) ≡ claimant q items))
-    → StandsAt (get rid_cmp b rid) rid (items ++ item ∷ [])
-    → (q : Rid) → StandsAt (get rid_cmp b q) q (items ++ item ∷ [])
+    → StandsKnown (get rid_cmp b rid) rid (items ++ item ∷ [])
+    → (q : Rid) → StandsKnown (get rid_cmp b q) q (items ++ item ∷ [])
 each_grown a b rid items item h others stays grown q = elim (same_or_other q rid) [
-  | inl e ↦ subst (λ (x : Rid). StandsAt (get rid_cmp b x) x (items ++ item ∷ [])) (sym e) grown
+  | inl e ↦ subst (λ (x : Rid). StandsKnown (get rid_cmp b x) x (items ++ item ∷ [])) (sym e) grown
   | inr (other, test) ↦
       stands_so (get rid_cmp b q) q items (items ++ item ∷ []) (stays q test).0 (stays q test).1
-      (subst (λ (r : Option Repository). StandsAt r q items) (sym (others q other)) (h q))
+      (subst (λ (r : Option Repository). StandsKnown r q items) (sym (others q other)) (h q))
 ]
 
 -- the objects of a put, behind those that stand
@@ -94,8 +94,8 @@ put_along old batch objects e = λ i oid. (objects_behind old batch oid ∙ ap (
 
 -- a repository in which a put was staged and admitted stands for that put more
 pub stands_put : (a m b : Option Repository) (rid of : Rid) (items : List Item) (batch : List Object) (caller : ℕ)
-    → (a ≡ None → ⊥) → IsSame a m → HasStagedPut batch a m → IsAdmitted (Put of (names_of batch) caller) m b → StandsAt a rid items
-    → StandsAt b rid (items ++ put rid batch caller ∷ [])
+    → (a ≡ None → ⊥) → IsSame a m → HasStagedPut batch a m → IsAdmitted (Put of (names_of batch) caller) m b → StandsKnown a rid items
+    → StandsKnown b rid (items ++ put rid batch caller ∷ [])
 stands_put None m b rid of items batch caller there s staged admitted h = absurd (there refl)
 stands_put (Some a) None b rid of items batch caller there s staged admitted h = absurd s
 stands_put (Some a) (Some m) None rid of items batch caller there s staged admitted h = absurd admitted
@@ -107,3 +107,8 @@ stands_put (Some a) (Some m) (Some b) rid of items batch caller there s staged a
       idle = admitted.2;
       claimed = admitted.3 ∙ s.2 ∙ h.claimed ∙ sym (claimant_stays rid items (put rid batch caller) tt);
     }
+
+-- who claimed a repository that stands for some entries
+pub claimant_told : (r : Option Repository) (rid : Rid) (items : List Item) → StandsKnown r rid items → claimant_at r ≡ claimant rid items
+claimant_told None rid items h = sym h.1
+claimant_told (Some r) rid items h = h.claimed

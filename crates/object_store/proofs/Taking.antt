@@ -29,9 +29,9 @@ use Rattle.legal_history.specs.Histories.{Lawful, Legal, MayInstall}
 use Rattle.legal_history.specs.Replays.{claimant, is_same, replay, replayed_state}
 use Rattle.legal_history.proofs.Durables.{legal_more}
 use Rattle.legal_history.proofs.GoodStandings.{legal_is_good}
-use Rattle.object_store.specs.Installs.{HasFew, HasStagedInstall, IsKnown, IsVerdictAt, IsWholeAdvance}
-use Rattle.object_store.specs.Opens.{HasRead, HasReplayed, IsIllegalAt, IsReplay}
-use Rattle.object_store.specs.Repositories.{HasStagedPut, IsAdmitted, IsSame, StandsAt, own_rid}
+use Rattle.object_store.specs.Installs.{HasFew, HasStagedInstall, IsThere, IsVerdictAt, IsWholeAdvance}
+use Rattle.object_store.specs.Opens.{HasReplayedSo, HasReplayed, IsIllegalAt, IsReplay}
+use Rattle.object_store.specs.Repositories.{HasStagedPut, IsAdmitted, IsSame, StandsKnown, own_rid}
 use Rattle.object_store.specs.declared.replayed.Replayed.{Replayed}
 use Rattle.object_store.specs.declared.repository.Repository.{Repository}
 use Rattle.object_store.proofs.Installing.{each_known, known_there, stands_few, stands_good, stands_install, stands_known}
@@ -51,17 +51,17 @@ illegal_more keyring n items item h = record {
 }
 
 -- one that is illegal stays so
-pub illegal_stays : (keyring : Contents) (read : Replayed) (illegal : Option ℕ) (items : List Item) (item : Item) → is_some illegal ≡ true → HasRead keyring read illegal items
-    → HasRead keyring read illegal (items ++ item ∷ [])
+pub illegal_stays : (keyring : Contents) (read : Replayed) (illegal : Option ℕ) (items : List Item) (item : Item) → is_some illegal ≡ true → HasReplayedSo keyring read illegal items
+    → HasReplayedSo keyring read illegal (items ++ item ∷ [])
 illegal_stays keyring read None items item e h = absurd (cc e)
 illegal_stays keyring read (Some n) items item e h = illegal_more keyring n items item h
 
 -- while none is, all stand
-pub all_stand : (keyring : Contents) (read : Replayed) (illegal : Option ℕ) (items : List Item) → illegal ≡ None → HasRead keyring read illegal items → HasReplayed keyring read items
+pub all_stand : (keyring : Contents) (read : Replayed) (illegal : Option ℕ) (items : List Item) → illegal ≡ None → HasReplayedSo keyring read illegal items → HasReplayed keyring read items
 all_stand keyring read None items e h = h
 all_stand keyring read (Some n) items e h = absurd (cc e)
 
-pub read_none : (keyring : Contents) (read : Replayed) (illegal : Option ℕ) (items : List Item) → illegal ≡ None → HasReplayed keyring read items → HasRead keyring read illegal items
+pub read_none : (keyring : Contents) (read : Replayed) (illegal : Option ℕ) (items : List Item) → illegal ≡ None → HasReplayed keyring read items → HasReplayedSo keyring read illegal items
 read_none keyring read None items e h = h
 read_none keyring read (Some n) items e h = absurd (cc e)
 
@@ -89,8 +89,8 @@ took_illegal keyring old items item n unlawful c h = record {
 
 -- an entry that is lawful
 took : (keyring : Contents) (old new : Replayed) (items : List Item) (item : Item) (entry : Entry) → HasBody item → Lawful keyring items item → entry ≡ entry_of item
-    → new.history.entries.items ≡ old.history.entries.items ++ entry ∷ [] → ((q : Rid) → StandsAt (get rid_cmp new.repositories q) q (items ++ item ∷ [])) → new.illegal ≡ None
-    → HasReplayed keyring old items → HasRead keyring new new.illegal (items ++ item ∷ [])
+    → new.history.entries.items ≡ old.history.entries.items ++ entry ∷ [] → ((q : Rid) → StandsKnown (get rid_cmp new.repositories q) q (items ++ item ∷ [])) → new.illegal ≡ None
+    → HasReplayed keyring old items → HasReplayedSo keyring new new.illegal (items ++ item ∷ [])
 took keyring old new items item entry body lawful en e each none h = read_none keyring new new.illegal (items ++ item ∷ []) none (record {
   bodies = each_more HasBody items item h.bodies body;
   entries = e ∙ ap (λ (l : List Entry). l ++ entry ∷ []) h.entries ∙ ap (λ (x : Entry). map entry_of items ++ x ∷ []) en ∙ sym (map-append entry_of items (item ∷ []));
@@ -99,18 +99,18 @@ took keyring old new items item entry body lawful en e each none h = read_none k
 })
 
 module _ (keyring : Contents) (old new : Replayed) (k m : BTreeMap Rid Repository) (rid : Rid)
-    (others1 : (q : Rid) → (q ≡ rid → ⊥) → get rid_cmp k q ≡ get rid_cmp old.repositories q) (known : IsKnown rid (get rid_cmp old.repositories rid) (get rid_cmp k rid))
+    (others1 : (q : Rid) → (q ≡ rid → ⊥) → get rid_cmp k q ≡ get rid_cmp old.repositories q) (known : IsThere rid (get rid_cmp old.repositories rid) (get rid_cmp k rid))
     (others2 : (q : Rid) → (q ≡ rid → ⊥) → get rid_cmp m q ≡ get rid_cmp k q) (same : IsSame (get rid_cmp k rid) (get rid_cmp m rid))
     (others3 : (q : Rid) → (q ≡ rid → ⊥) → get rid_cmp new.repositories q ≡ get rid_cmp m q) (items : List Item) (h : HasReplayed keyring old items)
     (entry : Entry) (e : new.history.entries.items ≡ old.history.entries.items ++ entry ∷ []) (none : new.illegal ≡ None)
     (admitted : IsAdmitted entry (get rid_cmp m rid) (get rid_cmp new.repositories rid)) where
   -- the repository was there, or made
-  here : StandsAt (get rid_cmp k rid) rid items
+  here : StandsKnown (get rid_cmp k rid) rid items
   here = stands_known (get rid_cmp old.repositories rid) (get rid_cmp k rid) rid items known (h.each rid)
 
   -- a put that is a batch stands
   pub took_put : (batch : List Object) → HasBody (put rid batch 0) → IsBatch batch → entry ≡ Put (own_rid (get rid_cmp k rid) rid) (names_of batch) 0
-      → HasStagedPut batch (get rid_cmp k rid) (get rid_cmp m rid) → HasRead keyring new new.illegal (items ++ put rid batch 0 ∷ [])
+      → HasStagedPut batch (get rid_cmp k rid) (get rid_cmp m rid) → HasReplayedSo keyring new new.illegal (items ++ put rid batch 0 ∷ [])
   took_put batch body is en staged =
       took keyring old new items (put rid batch 0) entry body (is, sym (unclaimed rid items h.bodies))
       (en ∙ ap (λ (x : Rid). Put x (names_of batch) 0) (named (get rid_cmp k rid) rid items here)) e
@@ -123,7 +123,7 @@ module _ (keyring : Contents) (old new : Replayed) (k m : BTreeMap Rid Repositor
   -- an install that is allowed stands
   pub took_install : (id : Oid) (remotes : List (Nid × Oid)) → HasBody (install rid id remotes 0) → MayInstall keyring items rid id remotes
       → entry ≡ Install (own_rid (get rid_cmp k rid) rid) id remotes 0 → HasStagedInstall id remotes (get rid_cmp k rid) (get rid_cmp m rid)
-      → HasRead keyring new new.illegal (items ++ install rid id remotes 0 ∷ [])
+      → HasReplayedSo keyring new new.illegal (items ++ install rid id remotes 0 ∷ [])
   took_install id remotes body may en staged =
       took keyring old new items (install rid id remotes 0) entry body (may, sym (unclaimed rid items h.bodies))
       (en ∙ ap (λ (x : Rid). Install x id remotes 0) (named (get rid_cmp k rid) rid items here)) e
@@ -134,7 +134,7 @@ module _ (keyring : Contents) (old new : Replayed) (k m : BTreeMap Rid Repositor
       (subst (λ (x : Entry). IsAdmitted x (get rid_cmp m rid) (get rid_cmp new.repositories rid)) en admitted) here)) none h
 
 -- the verdict on what stands
-pub verdict_is : (o : Option Repository) (rid : Rid) (keyring : Contents) (items : List Item) (offer : Offer) (scope : Scope) (verdict : Result Judged Whole) → (o ≡ None → ⊥) → Legal keyring items → StandsAt o rid items
+pub verdict_is : (o : Option Repository) (rid : Rid) (keyring : Contents) (items : List Item) (offer : Offer) (scope : Scope) (verdict : Result Judged Whole) → (o ≡ None → ⊥) → Legal keyring items → StandsKnown o rid items
     → IsVerdictAt o keyring offer scope verdict → IsVerdict (replay rid items).objects keyring (replayed_state rid items) offer scope verdict
 verdict_is None rid keyring items offer scope verdict there legal h told = absurd (there refl)
 verdict_is (Some r) rid keyring items offer scope verdict there legal h told =
@@ -159,14 +159,14 @@ module _ (keyring : Contents) (rid : Rid) (items : List Item) (id : Oid) (remote
       absurd (judged_or_refused (replay rid items).objects keyring (replayed_state rid items) (record { id = id; remotes = remotes }) All allows.judged whole allows.is is)
 
   -- by what was told of the repository
-  pub may_install : (a b : Option Repository) (verdict : Result Judged Whole) → Legal keyring items → StandsAt a rid items → IsKnown rid a b → IsVerdictAt b keyring (record { id = id; remotes = remotes }) All verdict
+  pub may_install : (a b : Option Repository) (verdict : Result Judged Whole) → Legal keyring items → StandsKnown a rid items → IsThere rid a b → IsVerdictAt b keyring (record { id = id; remotes = remotes }) All verdict
       → HasBody (install rid id remotes 0) → IsWholeAdvance remotes verdict → MayInstall keyring items rid id remotes
   may_install a b verdict legal h known told body advance = record {
     rising = body.0.rising;
     allowed = allowed_by verdict (verdict_is b rid keyring items (record { id = id; remotes = remotes }) All verdict (known_there a b rid known) legal (stands_known a b rid items known h) told) advance;
   }
 
-  pub may_not_install : (a b : Option Repository) (verdict : Result Judged Whole) → Legal keyring items → StandsAt a rid items → IsKnown rid a b → IsVerdictAt b keyring (record { id = id; remotes = remotes }) All verdict
+  pub may_not_install : (a b : Option Repository) (verdict : Result Judged Whole) → Legal keyring items → StandsKnown a rid items → IsThere rid a b → IsVerdictAt b keyring (record { id = id; remotes = remotes }) All verdict
       → (IsWholeAdvance remotes verdict → ⊥) → Lawful keyring items (install rid id remotes 0) → ⊥
   may_not_install a b verdict legal h known told none lawful =
       none (advance_by verdict (verdict_is b rid keyring items (record { id = id; remotes = remotes }) All verdict (known_there a b rid known) legal (stands_known a b rid items known h) told)
@@ -174,7 +174,7 @@ module _ (keyring : Contents) (rid : Rid) (items : List Item) (id : Oid) (remote
 
 -- the repository has few remotes
 pub replay_few : (keyring : Contents) (read : Replayed) (k : BTreeMap Rid Repository) (rid : Rid) → IsReplay keyring read → read.illegal ≡ None
-    → IsKnown rid (get rid_cmp read.repositories rid) (get rid_cmp k rid) → HasFew (get rid_cmp k rid)
+    → IsThere rid (get rid_cmp read.repositories rid) (get rid_cmp k rid) → HasFew (get rid_cmp k rid)
 replay_few keyring read k rid replayed none known =
     let h = all_stand keyring read read.illegal replayed.0 none replayed.1 in
     stands_few (get rid_cmp k rid) rid keyring replayed.0 h.legal

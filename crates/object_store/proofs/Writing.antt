@@ -1,5 +1,5 @@
 -- What an entry that was prepared and written makes of a store.
-use Rattle.std.proofs.Common.{◌≡◌, ℕ, ◌+◌, ◌<◌, ◌^◌, Bool, List, [], ◌∷◌, ◌++◌, length, Option, None, Some, Result, Ok, Err, refl, sym, ap, subst, ◌∙◌}
+use Rattle.std.proofs.Common.{◌≡◌, ℕ, ◌≤◌, Bool, List, [], ◌∷◌, ◌++◌, Option, None, Some, Result, Ok, Err, refl, sym, ap, subst, ◌∙◌, arith}
 use Rattle.std.specs.Prelude.{IfErr, OnOk}
 use Rattle.std.specs.BTreeMap.{get}
 use Rattle.rad_base.specs.Order.{rid_cmp}
@@ -15,9 +15,9 @@ use Rattle.entry_bodies.specs.Bodies.{body_of}
 use Rattle.legal_history.specs.Cores.{Core, enters, mends}
 use Rattle.legal_history.specs.Durable.{IsDurable}
 use Rattle.legal_history.specs.Histories.{Lawful}
-use Rattle.object_store.specs.Entries.{missed_by}
-use Rattle.object_store.specs.Repositories.{IsAdmitted, IsIdle, IsSame, StandsAt}
-use Rattle.object_store.specs.Stores.{IsRefusal, Moves, StandsFor}
+use Rattle.object_store.specs.Entries.{missed_entry}
+use Rattle.object_store.specs.Repositories.{IsAdmitted, IsIdle, IsSame, StandsKnown, claimant_at}
+use Rattle.object_store.specs.Stores.{HasClaimed, IsRefusedCall, Moves, StandsFor}
 use Rattle.object_store.specs.Writes.{HasLetGo, HasMissed, HasStayed, HasWritten, IsWriteFault}
 use Rattle.object_store.specs.declared.repository.Repository.{Repository}
 use Rattle.object_store.specs.declared.store.Store.{Store}
@@ -25,9 +25,10 @@ use Rattle.object_store.proofs.Moving.{entered, fault_left, nothing_done}
 use Rattle.object_store.proofs.Standing.{each_same, same_along, stands_idle}
 
 -- a repository that is claimed is there
-pub there : (o : Option Repository) (r : Repository) → o ≡ Some r → o ≡ None → ⊥
-there None r e none = absurd (cc e)
-there (Some x) r e none = absurd (cc none)
+pub there : {D : Type 0} (store : Store D) (rid : Rid) (caller : ℕ) → HasClaimed store rid caller → get rid_cmp store.repositories rid ≡ None → ⊥
+there store rid caller c none =
+    let nobody : claimant_at (get rid_cmp store.repositories rid) ≡ 0 = ap claimant_at none in
+    omega (arith, nobody, c.claimant, c.some)
 
 -- what was prepared for an entry
 pub record Prepares {D : Type 0} (old mid : Store D) (rid : Rid) : Type 0 where
@@ -47,7 +48,7 @@ prepared_nothing reads images old mid core rid s p idle =
 module _ {D : Type 0} (reads : D → Option (List ℕ)) (images : D → List ℕ → Type 0) (old mid new : Store D) (core : Core) (rid : Rid) (s : StandsFor old core.items) (p : Prepares old mid rid)
     (others : (q : Rid) → (q ≡ rid → ⊥) → get rid_cmp new.repositories q ≡ get rid_cmp mid.repositories q) (k : new.keyring ≡ mid.keyring) where
   -- what was let go of is as before
-  kept : HasLetGo mid new rid → (q : Rid) → StandsAt (get rid_cmp new.repositories q) q core.items
+  kept : HasLetGo mid new rid → (q : Rid) → StandsKnown (get rid_cmp new.repositories q) q core.items
   kept gone =
       each_same old.repositories new.repositories rid core.items s.each (λ q other. others q other ∙ p.others q other)
       (same_along (get rid_cmp old.repositories rid) (get rid_cmp mid.repositories rid) (get rid_cmp new.repositories rid) p.same gone.same) gone.idle
@@ -59,7 +60,7 @@ module _ {D : Type 0} (reads : D → Option (List ℕ)) (images : D → List ℕ
 
   module _ (caller : ℕ) (item : Item) (durable : IsDurable item) (lawful : Lawful old.keyring core.items item) (body : List ℕ) (entry : Entry) (b : body ≡ body_of item) (en : entry ≡ entry_of item) where
     -- an entry that was written and admitted
-    pub wrote : HasWritten reads images mid new rid entry body → ((q : Rid) → StandsAt (get rid_cmp new.repositories q) q (core.items ++ item ∷ []))
+    pub wrote : HasWritten reads images mid new rid entry body → ((q : Rid) → StandsKnown (get rid_cmp new.repositories q) q (core.items ++ item ∷ []))
         → Moves reads images old new core (mends ∷ enters item ∷ [])
     wrote w each =
         entered reads images old new core s (k ∙ p.keyring) item durable lawful
@@ -68,11 +69,11 @@ module _ {D : Type 0} (reads : D → Option (List ℕ)) (images : D → List ℕ
         (λ bodies doubt h. subst (λ (l : List ℕ). Holds reads images new.journal (bodies ++ l ∷ []) None) b (w.holds bodies doubt h)))
 
     -- an entry that was not
-    pub not_wrote : (fault : KeepFault) → IsWriteFault reads images mid new rid caller entry body fault → IsRefusal reads images old new core rid caller item fault
+    pub not_wrote : (fault : KeepFault) → IsWriteFault reads images mid new rid caller entry body fault → IsRefusedCall reads images old new core rid caller item fault
     not_wrote DiskFault w =
         fault_left reads images old new core s (k ∙ p.keyring) rid caller item w.in_doubt durable lawful
-        (w.entries ∙ ap (λ (l : List Entry). l ++ missed_by entry rid caller w.in_doubt ∷ []) p.entries
-        ∙ ap (λ (x : Entry). old.history.entries.items ++ missed_by x rid caller w.in_doubt ∷ []) en)
+        (w.entries ∙ ap (λ (l : List Entry). l ++ missed_entry entry rid caller w.in_doubt ∷ []) p.entries
+        ∙ ap (λ (x : Entry). old.history.entries.items ++ missed_entry x rid caller w.in_doubt ∷ []) en)
         (kept w.let_go)
         (held_first (λ (bodies : List (List ℕ)) (doubt : Option (List ℕ)). LeavesDoubt reads images bodies doubt (body_of item) new.journal (faults.DiskFault w.in_doubt))
         (λ bodies doubt h. subst (λ (l : List ℕ). LeavesDoubt reads images bodies doubt l new.journal (faults.DiskFault w.in_doubt)) b (w.left bodies doubt h)))

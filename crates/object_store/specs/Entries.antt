@@ -21,5 +21,5 @@ left_if true entry = left_by entry
 left_if false entry = lefts.Nothing
 
 -- the entry of a call for a repository that had this entry to write and met a fault of the disk
-abbrev pub missed_by : Entry → Rid → ℕ → Bool → Entry
-missed_by entry rid caller in_doubt = Missed (Some rid) (left_if in_doubt entry) caller
+abbrev pub missed_entry : Entry → Rid → ℕ → Bool → Entry
+missed_entry entry rid caller in_doubt = Missed (Some rid) (left_if in_doubt entry) caller

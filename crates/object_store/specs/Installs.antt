@@ -1,5 +1,5 @@
 -- Installs in the repositories of a store.
-use Rattle.std.specs.Prelude.{◌≡◌, ◌≢◌, ℕ, ◌≤◌, List, length, Option, None, Some, Result, Ok, Err}
+use Rattle.std.specs.Prelude.{◌≡◌, ◌≢◌, ℕ, ◌≤◌, List, length, Option, None, Some, IsSome, Result, Ok, Err}
 use Rattle.rad_base.specs.declared.names.Nid.{Nid}
 use Rattle.rad_base.specs.declared.names.Oid.{Oid}
 use Rattle.rad_base.specs.declared.names.Rid.{Rid}
@@ -16,10 +16,10 @@ use Rattle.object_store.specs.Repositories.{IsEmpty}
 use Rattle.object_store.specs.declared.repository.Repository.{Repository}
 
 -- it was there and stayed, or an empty one that nobody claimed stands there
-abbrev pub IsKnown : Rid → Option Repository → Option Repository → Type 0
-IsKnown rid (Some old) new = new ≡ Some old
-IsKnown rid None (Some new) = IsEmpty rid new × (new.claimant ≡ 0)
-IsKnown rid None None = ⊥
+abbrev pub IsThere : Rid → Option Repository → Option Repository → Type 0
+IsThere rid (Some old) new = new ≡ Some old
+IsThere rid None (Some new) = IsEmpty rid new × (new.claimant ≡ 0)
+IsThere rid None None = ⊥
 
 -- there are at most 1,024 remotes
 abbrev pub HasFew : Option Repository → Type 0
@@ -43,3 +43,8 @@ IsVerdictAt (Some r) keyring offer scope verdict = IsGood (objects_of r.slice) k
 abbrev pub IsWholeAdvance : List (Nid × Oid) → Result Judged Whole → Type 0
 IsWholeAdvance remotes (Ok judged) = (judged.id_outcome ≢ Stale) × (judged.advanced ≡ remotes)
 IsWholeAdvance remotes (Err whole) = ⊥
+
+-- the repository has an identity
+abbrev pub HasIdentityAt : Option Repository → Type 0
+HasIdentityAt None = ⊥
+HasIdentityAt (Some r) = IsSome (state_of r.slice).id

@@ -4,5 +4,6 @@ pub mod Installs
 pub mod Opened
 pub mod Opens
 pub mod Repositories
+pub mod Shown
 pub mod Stores
 pub mod Writes

@@ -16,12 +16,12 @@ use Rattle.object_store.specs.declared.faults.Why.TheVariants.{DiskFault, Unmade
 use Rattle.object_store.specs.declared.store.Store.{Store}
 
 -- the disk that comes back, in the store or in the refusal
-abbrev pub opened_disk : {D : Type 0} → Result (Store D) (StoreFault D) → D
-opened_disk (Ok store) = store.journal.disk
-opened_disk (Err fault) = fault.disk
+abbrev pub disk_of_opened : {D : Type 0} → Result (Store D) (StoreFault D) → D
+disk_of_opened (Ok store) = store.journal.disk
+disk_of_opened (Err fault) = fault.disk
 
 -- the bytes are a journal of the bodies of these entries, each of which has one
-pub record IsImage (bytes : List ℕ) (items : List Item) : Type 0 where
+pub record IsStoreImage (bytes : List ℕ) (items : List Item) : Type 0 where
   pub had_bodies : AllByRecursion HasBody items
   pub end : ℕ
   pub journal : IsJournal (bodies_of items) end bytes
@@ -36,16 +36,16 @@ Explains keyring bytes DiskFault = Unit {0}
 Explains keyring bytes Unmade = IsUnmade bytes
 Explains keyring bytes (Damaged place) =
     IsDamagedAt place bytes ⊎ ((bodies : List (List ℕ)) × (end : ℕ) × IsJournal bodies end bytes × IsNoEntryAt place bodies)
-Explains keyring bytes (NotLegal n) = (items : List Item) × IsImage bytes items × IsIllegalAt keyring n items
+Explains keyring bytes (NotLegal n) = (items : List Item) × IsStoreImage bytes items × IsIllegalAt keyring n items
 Explains keyring bytes NoMemory = Unit {0}
 
 -- What opening answers where the disk tells these bytes.
 abbrev pub IsOpenedStore : {D : Type 0} → (D → Option (List ℕ)) → (D → List ℕ → Type 0) → Contents → List ℕ
     → Result (Store D) (StoreFault D) → Type 0
 IsOpenedStore reads images keyring bytes (Ok store) =
-    (items : List Item) × IsImage bytes items × StandsFor store items × Holds reads images store.journal (bodies_of items) None
+    (items : List Item) × IsStoreImage bytes items × StandsFor store items × Holds reads images store.journal (bodies_of items) None
 IsOpenedStore reads images keyring bytes (Err fault) = Explains keyring bytes fault.why
 
 -- a disk fault comes only where the count rose
-abbrev pub HasOpenCause : {D : Type 0} → ℕ → (D → ℕ) → StoreFault D → Type 0
-HasOpenCause before faults fault = fault.why ≡ DiskFault → Rose before (faults fault.disk)
+abbrev pub HasStoreOpenCause : {D : Type 0} → ℕ → (D → ℕ) → StoreFault D → Type 0
+HasStoreOpenCause before faults fault = fault.why ≡ DiskFault → Rose before (faults fault.disk)

@@ -12,7 +12,7 @@ use Rattle.repo_entries.specs.Items.{Item, entry_of}
 use Rattle.entry_bodies.specs.Bodies.{HasBody, SpellsItem}
 use Rattle.legal_history.specs.Histories.{Lawful, Legal}
 use Rattle.object_store.specs.Bodies.{bodies_of}
-use Rattle.object_store.specs.Repositories.{StandsAt}
+use Rattle.object_store.specs.Repositories.{StandsKnown}
 use Rattle.object_store.specs.declared.replayed.ReadFault.{ReadFault}
 use Rattle.object_store.specs.declared.replayed.ReadFault.TheVariants.{DiskFault, Damaged, NotLegal, NoMemory}
 use Rattle.object_store.specs.declared.replayed.Replayed.{Replayed}
@@ -31,27 +31,27 @@ pub record IsIllegalAt (keyring : Contents) (n : ℕ) (items : List Item) : Type
 pub record HasReplayed (keyring : Contents) (read : Replayed) (items : List Item) : Type 0 where
   pub bodies : AllByRecursion HasBody items
   pub entries : read.history.entries.items ≡ map entry_of items
-  pub each : (rid : Rid) → StandsAt (get rid_cmp read.repositories rid) rid items
+  pub each : (rid : Rid) → StandsKnown (get rid_cmp read.repositories rid) rid items
   pub legal : Legal keyring items
 
 -- these entries were read: they stand, or the first that is not legal is known
-abbrev pub HasRead : Contents → Replayed → Option ℕ → List Item → Type 0
-HasRead keyring read None items = HasReplayed keyring read items
-HasRead keyring read (Some n) items = IsIllegalAt keyring n items
+abbrev pub HasReplayedSo : Contents → Replayed → Option ℕ → List Item → Type 0
+HasReplayedSo keyring read None items = HasReplayed keyring read items
+HasReplayedSo keyring read (Some n) items = IsIllegalAt keyring n items
 
 -- some entries were read
 abbrev pub IsReplay : Contents → Replayed → Type 0
-IsReplay keyring read = (items : List Item) × HasRead keyring read read.illegal items
+IsReplay keyring read = (items : List Item) × HasReplayedSo keyring read read.illegal items
 
 -- this entry was read behind others that stand
-abbrev pub Takes : Contents → Replayed → Replayed → Item → Type 0
-Takes keyring old new item = (items : List Item) → HasReplayed keyring old items
-    → HasRead keyring new new.illegal (items ++ item ∷ [])
+abbrev pub TakesBehind : Contents → Replayed → Replayed → Item → Type 0
+TakesBehind keyring old new item = (items : List Item) → HasReplayed keyring old items
+    → HasReplayedSo keyring new new.illegal (items ++ item ∷ [])
 
 -- this entry was read behind others
 abbrev pub TakesOne : Contents → Replayed → Replayed → Item → Type 0
-TakesOne keyring old new item = (items : List Item) → HasRead keyring old old.illegal items
-    → HasRead keyring new new.illegal (items ++ item ∷ [])
+TakesOne keyring old new item = (items : List Item) → HasReplayedSo keyring old old.illegal items
+    → HasReplayedSo keyring new new.illegal (items ++ item ∷ [])
 
 -- the journal's bodies begin with those of these entries, and this place is behind them
 pub record BeginsSo (bodies : List (List ℕ)) (place : ℕ) (items : List Item) : Type 0 where
@@ -64,7 +64,7 @@ pub record IsWalk {D : Type 0} (reads : D → Option (List ℕ)) (images : D →
     (keyring : Contents) (place : ℕ) (read : Replayed) : Type 0 where
   pub items : List Item
   pub had_bodies : AllByRecursion HasBody items
-  pub had : HasRead keyring read read.illegal items
+  pub had : HasReplayedSo keyring read read.illegal items
   pub begins : (bodies : List (List ℕ)) → Holds reads images journal bodies None → BeginsSo bodies place items
 
 -- the least body that is no entry's stands at this place

@@ -20,9 +20,9 @@ pub record StandsAs (r : Repository) (rid : Rid) (items : List Item) : Type 0 wh
   pub claimed : r.claimant ≡ claimant rid items
 
 -- so it is, where it is known; where it is not, the entries make nothing of it
-abbrev pub StandsAt : Option Repository → Rid → List Item → Type 0
-StandsAt None rid items = (replay rid items ≡ nothing_stands) × (claimant rid items ≡ 0)
-StandsAt (Some r) rid items = StandsAs r rid items
+abbrev pub StandsKnown : Option Repository → Rid → List Item → Type 0
+StandsKnown None rid items = (replay rid items ≡ nothing_stands) × (claimant rid items ≡ 0)
+StandsKnown (Some r) rid items = StandsAs r rid items
 
 -- the same stands, and the same caller claimed it
 abbrev pub IsSame : Option Repository → Option Repository → Type 0

@@ -20,16 +20,15 @@ use Rattle.legal_history.specs.Durable.{durable_part}
 use Rattle.legal_history.specs.Histories.{Legal}
 use Rattle.legal_history.specs.Replays.{claimant, replay, replayed_state}
 use Rattle.object_store.specs.Bodies.{bodies_of, body_in_doubt}
-use Rattle.object_store.specs.Repositories.{StandsAt}
+use Rattle.object_store.specs.Repositories.{StandsKnown, claimant_at}
 use Rattle.object_store.specs.declared.faults.ClaimFault.{ClaimFault}
 use Rattle.object_store.specs.declared.faults.ClaimFault.TheVariants as claimed
-use Rattle.object_store.specs.declared.repository.Repository.{Repository}
 use Rattle.object_store.specs.declared.store.Store.{Store}
 
 -- the store stands for these entries: its history has them, each repository is what they make of it, and they are legal
 pub record StandsFor {D : Type 0} (store : Store D) (items : List Item) : Type 0 where
   pub entries : store.history.entries.items ≡ map entry_of items
-  pub each : (rid : Rid) → StandsAt (get rid_cmp store.repositories rid) rid items
+  pub each : (rid : Rid) → StandsKnown (get rid_cmp store.repositories rid) rid items
   pub legal : Legal store.keyring items
 
 -- the store's journal holds the durable part of the entries, with that doubt
@@ -48,15 +47,15 @@ pub record Moves {D : Type 0} (reads : D → Option (List ℕ)) (images : D → 
 
 -- The events of a refused call that had this entry to write. A fault of the disk leaves it in doubt, behind a mend; or
 -- leaves nothing new, with a mend before it or without one. Else nothing happens.
-abbrev pub IsRefusal : {D : Type 0} → (D → Option (List ℕ)) → (D → List ℕ → Type 0) → Store D → Store D → Core
+abbrev pub IsRefusedCall : {D : Type 0} → (D → Option (List ℕ)) → (D → List ℕ → Type 0) → Store D → Store D → Core
     → Rid → ℕ → Item → KeepFault → Type 0
-IsRefusal reads images old new core rid caller item keeps.DiskFault =
+IsRefusedCall reads images old new core rid caller item keeps.DiskFault =
     Moves reads images old new core (mends ∷ doubts (Some rid) caller item ∷ [])
     ⊎ Moves reads images old new core (mends ∷ misses (Some rid) caller ∷ [])
     ⊎ Moves reads images old new core (misses (Some rid) caller ∷ [])
-IsRefusal reads images old new core rid caller item keeps.Full = Moves reads images old new core []
-IsRefusal reads images old new core rid caller item (keeps.Changed change) = ⊥
-IsRefusal reads images old new core rid caller item keeps.NoMemory = Moves reads images old new core []
+IsRefusedCall reads images old new core rid caller item keeps.Full = Moves reads images old new core []
+IsRefusedCall reads images old new core rid caller item (keeps.Changed change) = ⊥
+IsRefusedCall reads images old new core rid caller item keeps.NoMemory = Moves reads images old new core []
 
 -- the events of a put: it enters behind a mend, or is refused
 abbrev pub IsPut : {D : Type 0} → (D → Option (List ℕ)) → (D → List ℕ → Type 0) → Store D → Store D → Core
@@ -64,7 +63,7 @@ abbrev pub IsPut : {D : Type 0} → (D → Option (List ℕ)) → (D → List �
 IsPut reads images old new core rid batch caller (Ok done) =
     Moves reads images old new core (mends ∷ enters (put rid batch caller) ∷ [])
 IsPut reads images old new core rid batch caller (Err fault) =
-    IsRefusal reads images old new core rid caller (put rid batch caller) fault
+    IsRefusedCall reads images old new core rid caller (put rid batch caller) fault
 
 -- the events of a claim
 abbrev pub IsClaiming : {D : Type 0} → (D → Option (List ℕ)) → (D → List ℕ → Type 0) → Store D → Store D → Core
@@ -76,22 +75,24 @@ IsClaiming reads images old new core rid caller (Err claimed.NoMemory) = Moves r
 
 -- the caller claimed the repository
 pub record HasClaimed {D : Type 0} (store : Store D) (rid : Rid) (caller : ℕ) : Type 0 where
-  pub repository : Repository
-  pub is : get rid_cmp store.repositories rid ≡ Some repository
-  pub claimant : repository.claimant ≡ caller
+  pub claimant : claimant_at (get rid_cmp store.repositories rid) ≡ caller
   pub some : 1 ≤ caller
 
+-- what was claimed stays so
+abbrev pub KeepsClaims : {D : Type 0} → Store D → Store D → Type 0
+KeepsClaims old new = (rid : Rid) (caller : ℕ) → HasClaimed old rid caller → HasClaimed new rid caller
+
 -- the store stands for some entries
-abbrev pub Stands : {D : Type 0} → Store D → Type 0
-Stands store = (items : List Item) × StandsFor store items
+abbrev pub StandsForSome : {D : Type 0} → Store D → Type 0
+StandsForSome store = (items : List Item) × StandsFor store items
 
 -- the journal has no room for an entry's body
-abbrev pub LacksRoom : ℕ → Item → Type 0
-LacksRoom end item = 2 ^ 40 < end + 10 + length (body_of item)
+abbrev pub LacksRoomFor : ℕ → Item → Type 0
+LacksRoomFor end item = 2 ^ 40 < end + 10 + length (body_of item)
 
 -- the verdict on an offer, on what the entries make of a repository
-abbrev pub IsVerdictOn : Contents → List Item → Rid → Offer → Scope → Result Judged Whole → Type 0
-IsVerdictOn keyring items rid offer scope verdict =
+abbrev pub IsVerdictBehind : Contents → List Item → Rid → Offer → Scope → Result Judged Whole → Type 0
+IsVerdictBehind keyring items rid offer scope verdict =
     IsVerdict (replay rid items).objects keyring (replayed_state rid items) offer scope verdict
 
 -- the entry of what was judged so
@@ -103,20 +104,20 @@ install_of rid caller judged = install rid judged.next_id judged.advanced caller
 abbrev pub IsInstall : {D : Type 0} → (D → Option (List ℕ)) → (D → List ℕ → Type 0) → Store D → Store D → Core
     → Rid → Offer → Scope → ℕ → Result (Result Judged Whole) KeepFault → Type 0
 IsInstall reads images old new core rid offer scope caller (Ok (Ok judged)) =
-    IsVerdictOn old.keyring core.items rid offer scope (Ok judged)
+    IsVerdictBehind old.keyring core.items rid offer scope (Ok judged)
     × Moves reads images old new core (mends ∷ enters (install_of rid caller judged) ∷ [])
 IsInstall reads images old new core rid offer scope caller (Ok (Err why)) =
-    IsVerdictOn old.keyring core.items rid offer scope (Err why) × Moves reads images old new core (refuses rid why caller ∷ [])
+    IsVerdictBehind old.keyring core.items rid offer scope (Err why) × Moves reads images old new core (refuses rid why caller ∷ [])
 IsInstall reads images old new core rid offer scope caller (Err keeps.DiskFault) =
-    (judged : Judged) × IsVerdictOn old.keyring core.items rid offer scope (Ok judged)
-    × IsRefusal reads images old new core rid caller (install_of rid caller judged) keeps.DiskFault
+    (judged : Judged) × IsVerdictBehind old.keyring core.items rid offer scope (Ok judged)
+    × IsRefusedCall reads images old new core rid caller (install_of rid caller judged) keeps.DiskFault
 IsInstall reads images old new core rid offer scope caller (Err keeps.Full) =
-    (judged : Judged) × IsVerdictOn old.keyring core.items rid offer scope (Ok judged)
-    × LacksRoom old.journal.end (install_of rid caller judged) × Moves reads images old new core []
+    (judged : Judged) × IsVerdictBehind old.keyring core.items rid offer scope (Ok judged)
+    × LacksRoomFor old.journal.end (install_of rid caller judged) × Moves reads images old new core []
 IsInstall reads images old new core rid offer scope caller (Err (keeps.Changed change)) = ⊥
 IsInstall reads images old new core rid offer scope caller (Err keeps.NoMemory) = Moves reads images old new core []
 
 -- the journal had room for what was judged
-abbrev pub HadRoom : ℕ → Rid → ℕ → Result Judged Whole → Type 0
-HadRoom end rid caller (Ok judged) = LacksRoom end (install_of rid caller judged) → ⊥
-HadRoom end rid caller (Err why) = Unit {0}
+abbrev pub JournalHadRoom : ℕ → Rid → ℕ → Result Judged Whole → Type 0
+JournalHadRoom end rid caller (Ok judged) = LacksRoomFor end (install_of rid caller judged) → ⊥
+JournalHadRoom end rid caller (Err why) = Unit {0}

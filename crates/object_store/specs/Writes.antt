@@ -8,7 +8,7 @@ use Rattle.ref_journal.specs.declared.faults.AppendFault.TheVariants as appends
 use Rattle.repo_entries.specs.declared.entry.Entry.{Entry}
 use Rattle.repo_slice.specs.declared.keep_fault.KeepFault.{KeepFault}
 use Rattle.repo_slice.specs.declared.keep_fault.KeepFault.TheVariants.{DiskFault, Full, Changed, NoMemory}
-use Rattle.object_store.specs.Entries.{missed_by}
+use Rattle.object_store.specs.Entries.{missed_entry}
 use Rattle.object_store.specs.Repositories.{IsAdmitted, IsIdle, IsSame}
 use Rattle.object_store.specs.declared.store.Store.{Store}
 
@@ -30,7 +30,7 @@ pub record HasMissed {D : Type 0} (reads : D → Option (List ℕ)) (images : D 
     (rid : Rid) (caller : ℕ) (entry : Entry) (body : List ℕ) : Type 0 where
   pub let_go : HasLetGo old new rid
   pub in_doubt : Bool
-  pub entries : new.history.entries.items ≡ old.history.entries.items ++ missed_by entry rid caller in_doubt ∷ []
+  pub entries : new.history.entries.items ≡ old.history.entries.items ++ missed_entry entry rid caller in_doubt ∷ []
   pub left : (bodies : List (List ℕ)) (doubt : Option (List ℕ)) → Holds reads images old.journal bodies doubt
       → LeavesDoubt reads images bodies doubt body new.journal (appends.DiskFault in_doubt)
 

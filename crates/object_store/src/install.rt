@@ -9,7 +9,7 @@ ghost use Rattle.repo_slice.specs.Good.{IsGood};
 ghost use Rattle.repo_slice.specs.Slices.{HasNothingStaged, IsCertain, IsReady, objects_of};
 ghost use Rattle.repo_slice.specs.Slices.{pending_of, pending_state, state_of};
 ghost use Rattle.repo_slice.specs.Verdicts.{IsChecked, IsInstalled, IsVerdict};
-ghost use Rattle.object_store.specs.Installs.{HasFew, HasStagedInstall, IsKnown, IsVerdictAt};
+ghost use Rattle.object_store.specs.Installs.{HasFew, HasStagedInstall, IsThere, IsVerdictAt};
 ghost use Rattle.object_store.specs.Installs.{IsWholeAdvance};
 ghost use Rattle.object_store.specs.Repositories.{IsIdle, IsPrepared, IsSame, own_rid};
 
@@ -28,7 +28,7 @@ pub(crate) fn ensure_at(
 ) -> Result<(), NoMemory>
     ensures others { (other : Rid) → other ≢ rid.now
         → get rid_cmp all.new other ≡ get rid_cmp all.old other }
-    ensures known { OnOk result (IsKnown rid.now (get rid_cmp all.old rid.now)
+    ensures known { OnOk result (IsThere rid.now (get rid_cmp all.old rid.now)
         (get rid_cmp all.new rid.now)) }
 {
     if all.get(rid).is_some() {

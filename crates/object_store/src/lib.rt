@@ -7,6 +7,8 @@ mod missed;
 mod replayed;
 mod repository;
 mod store;
+#[cfg(test)]
+mod tests;
 
 pub use faults::{ClaimFault, StoreFault, Why};
 pub use repo_slice::KeepFault;

@@ -1,6 +1,6 @@
 // What is left of an entry that a call had to write.
 ghost use Rattle.std.specs.Prelude.{◌≡◌};
-ghost use Rattle.object_store.specs.Entries.{left_by, missed_by};
+ghost use Rattle.object_store.specs.Entries.{left_by, missed_entry};
 
 use rad_base::{Offer, Rid};
 use repo_slice::{Entry, Left};
@@ -21,7 +21,7 @@ fn into_left(entry: Entry) -> Left
 
 // The entry of such a call for a repository that met a fault of the disk. It takes no memory.
 pub(crate) fn into_missed(entry: Entry, rid: &Rid, caller: u64, in_doubt: bool) -> Entry
-    ensures { result ≡ missed_by entry rid.now caller in_doubt }
+    ensures { result ≡ missed_entry entry rid.now caller in_doubt }
 {
     let left = if in_doubt {
         into_left(entry)

@@ -6,7 +6,7 @@ ghost use Rattle.ref_journal.specs.Holds.{Holds, OnlyReads};
 ghost use Rattle.repo_entries.specs.Batches.{AreContents, IsBatch, content_size};
 ghost use Rattle.repo_entries.specs.Items.{install, put};
 ghost use Rattle.entry_bodies.specs.Bodies.{HasBody, item_in};
-ghost use Rattle.object_store.specs.Opens.{IsReading, IsReplay, Takes, TakesOne};
+ghost use Rattle.object_store.specs.Opens.{IsReading, IsReplay, TakesBehind, TakesOne};
 
 use crate::install::{ensure_at, is_whole_advance, judge_at, stage_install_at};
 use crate::repository::{Repository, admit_at, stage_put_at};
@@ -69,12 +69,12 @@ fn is_batch(batch: &Batch) -> bool
 }
 
 impl Replayed {
-    // Takes a put that was read, where all before it stand.
+    // TakesBehind a put that was read, where all before it stand.
     fn take_put(&mut self, alloc: Global, rid: &Rid, batch: &Batch) -> Result<(), NoMemory>
         requires legal { self.old.illegal ≡ None }
         requires body { HasBody (put rid.now batch.now 0) }
         ensures { OnOk result ((keyring : Contents)
-            → Takes keyring self.old self.new (put rid.now batch.now 0)) }
+            → TakesBehind keyring self.old self.new (put rid.now batch.now 0)) }
     {
         if !is_batch(batch) {
             self.illegal = Some(self.history.count() + 1);
@@ -88,7 +88,7 @@ impl Replayed {
         Ok(())
     }
 
-    // Takes an install that was read, where all before it stand.
+    // TakesBehind an install that was read, where all before it stand.
     fn take_install(
         &mut self,
         alloc: Global,
@@ -99,7 +99,7 @@ impl Replayed {
         requires legal { self.old.illegal ≡ None }
         requires body { HasBody (install rid.now offer.id offer.remotes 0) }
         requires replay { IsReplay keyring.now self.old }
-        ensures { OnOk result (Takes keyring.now self.old self.new
+        ensures { OnOk result (TakesBehind keyring.now self.old self.new
             (install rid.now offer.id offer.remotes 0)) }
     {
         self.history.make_room()?;
@@ -116,7 +116,7 @@ impl Replayed {
         Ok(())
     }
 
-    // Takes an entry that was read.
+    // TakesBehind an entry that was read.
     fn take(&mut self, alloc: Global, keyring: &Keyring, body: Body) -> Result<(), NoMemory>
         requires body { HasBody (item_in body) }
         requires replay { IsReplay keyring.now self.old }

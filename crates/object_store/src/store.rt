@@ -1,14 +1,18 @@
 // The store that replays.
 ghost use Rattle.std.specs.Prelude.{◌≡◌, ◌≢◌, ◌↔◌, ◌⊎◌, ◌≤◌, ◌<◌, ◌+◌, ◌^◌, length, IfErr, IfOk, IfSome};
 ghost use Rattle.ref_journal.specs.Holds.{OnlyReads};
-ghost use Rattle.std.specs.Prelude.{IsErrOf, OnErr, OnOk};
+ghost use Rattle.std.specs.Prelude.{List, Some, IsErrOf, IsTrue, OnErr, OnOk};
+ghost use Rattle.repo_slice.specs.Heads.{IsHeadOf};
+ghost use Rattle.legal_history.specs.Replays.{replay, replayed_state};
+ghost use Rattle.object_store.specs.Shown.{IsBare};
+ghost use Rattle.object_store.specs.Installs.{HasIdentityAt};
 ghost use Rattle.std.specs.BTreeMap.{get};
 ghost use Rattle.rad_base.specs.Faults.{Rose};
 ghost use Rattle.rad_base.specs.Order.{IsRising, rid_cmp};
 ghost use Rattle.rad_base.specs.declared.names.Rid.{Rid};
 ghost use Rattle.repo_entries.specs.Batches.{IsBatch};
 ghost use Rattle.repo_entries.specs.Histories.{HasRoom};
-ghost use Rattle.repo_entries.specs.Items.{names_of};
+ghost use Rattle.repo_entries.specs.Items.{Item, names_of};
 ghost use Rattle.entry_bodies.specs.Bodies.{install_text, put_text};
 ghost use Rattle.legal_history.specs.Cores.{Core};
 ghost use Rattle.object_store.specs.Installs.{HasFew, HasStagedInstall, IsVerdictAt};
@@ -19,12 +23,13 @@ use crate::missed::into_missed;
 use crate::replayed::{ReadFault, read_all};
 use crate::repository::{Repository, admit_at, claim_at, stage_put_at, unstage_at};
 use crate::{ClaimFault, StoreFault, Why};
+use canonical_head::answer::Head;
 use entry_bodies::{install_body, put_body};
 use keyring::Keyring;
 use rad_base::{NoMemory, Offer, Remotes, Rid};
 use rad_outside::Disk;
 use ref_journal::{AppendFault, Journal, OpenFault, Parcel};
-use repo_slice::{Batch, Entry, History, Judged, KeepFault, Scope, Whole};
+use repo_slice::{Batch, Entry, History, Judged, KeepFault, Scope, Slice, Whole};
 use std::alloc::Global;
 use std::collections::BTreeMap;
 
@@ -75,18 +80,26 @@ fn fault<D>(disk: D, why: Why) -> StoreFault<D>
     StoreFault { disk, why }
 }
 
+// Whether a slice has no object and no identity.
+fn is_bare(slice: &Slice) -> bool
+    ensures { IsTrue result ↔ IsBare slice.now }
+{
+    slice.count() == 0 && slice.id().is_none()
+}
+
 impl<D: Disk> Store<D> {
-    ghost use Rattle.object_store.specs.Opened.{HasOpenCause, IsOpenedStore, OpensAs, opened_disk};
-    ghost use Rattle.object_store.specs.Stores.{HadRoom, HasClaimed, IsClaiming, IsInstall, IsPut};
-    ghost use Rattle.object_store.specs.Stores.{Stands, StandsFor};
+    ghost use Rattle.object_store.specs.Shown.{IsShownAs};
+    ghost use Rattle.object_store.specs.Opened.{HasStoreOpenCause, IsOpenedStore, OpensAs, disk_of_opened};
+    ghost use Rattle.object_store.specs.Stores.{JournalHadRoom, HasClaimed, IsClaiming, IsInstall, IsPut};
+    ghost use Rattle.object_store.specs.Stores.{KeepsClaims, StandsForSome, StandsFor};
     ghost use Rattle.object_store.specs.Writes.{HasWritten, IsWriteFault};
 
     /// Opens the store that stands on a disk, under a keyring. It writes nothing. A refusal gives the
     /// disk back.
     pub fn open(alloc: Global, disk: D, keyring: Keyring) -> Result<Store<D>, StoreFault<D>>
         ensures reads { OnlyReads D.loan D.faults D.reads_as D.images D.moment D.images_since
-            disk (opened_disk result) }
-        ensures cause { IfErr result (HasOpenCause (D.faults disk) D.faults) }
+            disk (disk_of_opened result) }
+        ensures cause { IfErr result (HasStoreOpenCause (D.faults disk) D.faults) }
         ensures stands { IfOk result (OpensAs keyring) }
         ensures opened { IfSome (D.reads_as disk)
             (λ bytes. IsOpenedStore D.reads_as D.images keyring bytes result) }
@@ -113,11 +126,63 @@ impl<D: Disk> Store<D> {
         }
     }
 
+    /// The entries, in order.
+    pub fn history(&self) -> &History
+        ensures { result.now ≡ self.now.history }
+    {
+        &self.history
+    }
+
+    /// What stands of a repository. None exactly where no put or install names it.
+    pub fn slice(&self, rid: &Rid) -> Option<&Slice>
+        ensures { (items : List Item) → StandsFor self.now items
+            → IsShownAs rid.now items result }
+    {
+        let Some(repository) = self.repositories.get(rid) else {
+            return None;
+        };
+        if is_bare(&repository.slice) {
+            return None;
+        }
+        Some(&repository.slice)
+    }
+
+    /// Gives the disk and the history back. It takes no memory.
+    pub fn close(self) -> (D, History)
+        ensures disk { result.0 ≡ self.journal.disk }
+        ensures history { result.1 ≡ self.history }
+    {
+        (self.journal.close(), self.history)
+    }
+
+    /// The canonical head of a repository that has an identity. It changes nothing. Until contents
+    /// are read from the disk the one refusal is `NoMemory`.
+    pub fn head(&mut self, alloc: Global, rid: &Rid, _caller: u64) -> Result<Head, KeepFault>
+        requires { HasIdentityAt (get rid_cmp self.old.repositories rid.now) }
+        ensures same { self.new ≡ self.old }
+        ensures fault { IfErr result (λ why. why ≡ KeepFault.NoMemory) }
+        ensures head { (items : List Item) → StandsFor self.old items → IfOk result
+            (λ head. IsHeadOf (replay rid.now items).objects self.old.keyring
+            (replayed_state rid.now items) (Some head)) }
+    {
+        // Where there is an identity, neither is nothing.
+        let Some(repository) = self.repositories.get(rid) else {
+            return Ok(Head::NoBranch);
+        };
+        match repository.slice.head(alloc, &self.keyring) {
+            Ok(Some(head)) => Ok(head),
+            Ok(None) => Ok(Head::NoBranch),
+            Err(_) => Err(KeepFault::NoMemory),
+        }
+    }
+
     /// Lets a caller claim a repository for this run. `Claimed`: this caller claimed it. After a
     /// refusal the history is as before.
     pub fn claim(&mut self, alloc: Global, rid: &Rid, caller: u64) -> Result<(), ClaimFault>
         requires { 1 ≤ caller }
         ensures journal { self.new.journal ≡ self.old.journal }
+        ensures claimed { OnOk result (HasClaimed self.new rid.now caller) }
+        ensures claims { KeepsClaims self.old self.new }
         ensures events { (core : Core) → StandsFor self.old core.items
             → IsClaiming D.reads_as D.images self.old self.new core rid.now caller result }
     {
@@ -147,6 +212,7 @@ impl<D: Disk> Store<D> {
             → 2 ^ 40 < self.old.journal.end + 10 + length (put_text rid.now batch.now) }
         ensures only_full { 2 ^ 40 < self.old.journal.end + 10 + length (put_text rid.now batch.now)
             → IsErrOf result KeepFault.Full ⊎ IsErrOf result KeepFault.NoMemory }
+        ensures claims { KeepsClaims self.old self.new }
         ensures events { (core : Core) → StandsFor self.old core.items
             → IsPut D.reads_as D.images self.old self.new core rid.now batch.now caller result }
     {
@@ -168,12 +234,13 @@ impl<D: Disk> Store<D> {
         scope: &Scope,
     ) -> Result<Result<Judged, Whole>, KeepFault>
         requires claimed { HasClaimed self.old rid.now caller }
-        requires stands { Stands self.old }
+        requires stands { StandsForSome self.old }
         ensures stays { D.loan self.new.journal.disk ≡ D.loan self.old.journal.disk }
         ensures later { D.faults self.old.journal.disk ≤ D.faults self.new.journal.disk }
         ensures cause { IsErrOf result KeepFault.DiskFault
             → Rose (D.faults self.old.journal.disk) (D.faults self.new.journal.disk) }
-        ensures room { IfOk result (HadRoom self.old.journal.end rid.now caller) }
+        ensures room { IfOk result (JournalHadRoom self.old.journal.end rid.now caller) }
+        ensures claims { KeepsClaims self.old self.new }
         ensures events { (core : Core) → StandsFor self.old core.items
             → IsInstall D.reads_as D.images self.old self.new core rid.now offer.now scope.now
             caller result }

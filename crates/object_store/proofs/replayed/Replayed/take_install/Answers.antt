@@ -3,7 +3,7 @@ use Rattle.std.specs.BTreeMap.{get}
 use Rattle.rad_base.specs.Order.{rid_cmp}
 use Rattle.repo_entries.specs.Items.{install}
 use Rattle.repo_entries.specs.declared.entry.Entry.{Entry}
-use Rattle.object_store.specs.Installs.{IsKnown}
+use Rattle.object_store.specs.Installs.{IsThere}
 use Rattle.object_store.specs.declared.repository.Repository.{Repository}
 use Rattle.object_store.proofs.Taking.{may_install, may_not_install, replay_few, took_illegal, took_install}
 use Rattle.object_store.proofs.replayed.Replayed.take_install.Goals as goal
@@ -24,7 +24,7 @@ pub returns : goal.returns
 returns c = λ items h.
     took_install c.args.keyring.now c.args.self.now _ c.judge_at.new.all c.stage_install_at.new.all c.args.rid.now
     (λ q other. c.in_ok-verdict.ensures.others q other ∙ c.in_ok-ensure_at.ensures.others q other)
-    (subst (λ (r : Option Repository). IsKnown c.args.rid.now (get rid_cmp c.args.self.now.repositories c.args.rid.now) r) (sym c.in_ok-verdict.ensures.same)
+    (subst (λ (r : Option Repository). IsThere c.args.rid.now (get rid_cmp c.args.self.now.repositories c.args.rid.now) r) (sym c.in_ok-verdict.ensures.same)
     c.in_ok-ensure_at.ensures.known)
     c.in_ok-entry.ensures.others c.in_ok-entry.ensures.same c.admit_at.ensures.others items h c.in_ok-entry.entry
     (c.push.ensures ∙ ap (λ (l : List Entry). l ++ c.in_ok-entry.entry ∷ []) c.in_ok-make_room.ensures.same) c.requires.legal c.admit_at.ensures.admitted

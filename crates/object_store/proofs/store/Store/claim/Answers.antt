@@ -2,6 +2,7 @@ use Rattle.std.proofs.Common.{◌∙◌, ◌++◌, ◌∷◌, [], List, ap, refl
 use Rattle.std.proofs.lemmas.Result.{err_from_is_err_and}
 use Rattle.repo_entries.specs.declared.entry.Entry.{Entry}
 use Rattle.repo_entries.specs.declared.entry.Entry.TheVariants.{Claim}
+use Rattle.object_store.proofs.Claims.{claims_claimed, claims_equal, is_claimed}
 use Rattle.object_store.proofs.Claiming.{claim_ok, claim_refused, each_still}
 use Rattle.object_store.proofs.Moving.{nothing_done}
 use Rattle.object_store.proofs.store.Store.claim.Goals as goal
@@ -20,3 +21,12 @@ returns-clause-events g c = λ core s.
     claim_ok _ _ c.args.self.now _ core c.args.rid.now c.args.caller c.requires s refl refl
     (c.push.ensures ∙ ap (λ (l : List Entry). l ++ Claim c.args.rid.now c.args.caller ∷ []) c.in_ok-make_room.ensures.same)
     c.in_ok-claim_at.ensures.others c.in_ok-claim_at.ensures.ok c.in_ok-claim_at.ensures.claimed
+
+pub returns-clause-claimed : goal.returns-clause-claimed
+returns-clause-claimed g c = is_claimed c.args.self.now _ c.args.rid.now c.args.caller c.requires c.in_ok-claim_at.ensures.claimed
+
+pub returns-clause-claims : goal.returns-clause-claims
+returns-clause-claims g c = claims_claimed c.args.self.now _ c.args.rid.now c.in_ok-claim_at.ensures.others c.in_ok-claim_at.ensures.ok
+
+pub returns-in_err-claim_at-clause-claims : goal.returns-in_err-claim_at-clause-claims
+returns-in_err-claim_at-clause-claims g c = claims_equal c.args.self.now _ c.args.rid.now c.in_err-claim_at.ensures.others c.in_err-claim_at.ensures.same

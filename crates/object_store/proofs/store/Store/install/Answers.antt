@@ -2,6 +2,7 @@ use Rattle.std.proofs.Common.{Err, Ok, ap, refl, subst, sym}
 use Rattle.std.proofs.lemmas.Result.{err_from_is_err_and}
 use Rattle.repo_entries.specs.declared.history.History.{History}
 use Rattle.object_store.specs.Repositories.{IsIdle}
+use Rattle.object_store.proofs.Claims.{claims_equal, claims_on, claims_same, claims_written}
 use Rattle.object_store.proofs.Judging.{few_advance, few_at, installed, judged_nothing, judged_refused, not_installed, prepares}
 use Rattle.object_store.proofs.Writing.{prepared_nothing}
 use Rattle.object_store.proofs.store.Store.install.Goals as goal
@@ -120,3 +121,36 @@ returns-clause-events g c = λ core s.
     c.in_ok-entry.parcel c.in_ok-entry.entry (rw (c.in_ok-next.ensures.next.0, c.in_ok-next.ensures.next.1) at c.in_ok-entry.ensures.parcel)
     (rw (c.in_ok-next.ensures.next.0, c.in_ok-next.ensures.next.1) at c.in_ok-entry.ensures.entry)
     (rw (c.in_ok-next.ensures.next.0, c.in_ok-next.ensures.next.1) at c.in_ok-entry.ensures.staged) c.in_ok-write.ensures.wrote
+
+pub returns-in_err-judged-clause-claims : goal.returns-in_err-judged-clause-claims
+returns-in_err-judged-clause-claims g c = claims_equal c.args.self.now c.judge.new.self c.args.rid.now c.in_err-judged.ensures.others c.in_err-judged.ensures.same
+
+pub returns-in-Err-clause-claims : goal.returns-in-Err-clause-claims
+returns-in-Err-clause-claims g c = claims_equal c.args.self.now _ c.args.rid.now c.in_ok-judged.ensures.others c.in_ok-judged.ensures.same
+
+pub returns-in_err-next-clause-claims : goal.returns-in_err-next-clause-claims
+returns-in_err-next-clause-claims g c = claims_equal c.args.self.now c.judge.new.self c.args.rid.now c.in_ok-judged.ensures.others c.in_ok-judged.ensures.same
+
+pub returns-in_err-entry-clause-claims : goal.returns-in_err-entry-clause-claims
+returns-in_err-entry-clause-claims g c =
+    claims_on c.args.self.now c.judge.new.self c.prepare_install.new.self
+    (claims_equal c.args.self.now c.judge.new.self c.args.rid.now c.in_ok-judged.ensures.others c.in_ok-judged.ensures.same)
+    (claims_same c.judge.new.self c.prepare_install.new.self c.args.rid.now c.in_err-entry.ensures.others c.in_err-entry.ensures.same)
+
+pub returns-in_err-write-clause-claims : goal.returns-in_err-write-clause-claims
+returns-in_err-write-clause-claims g c =
+    claims_on c.args.self.now c.judge.new.self c.write.new.self
+    (claims_equal c.args.self.now c.judge.new.self c.args.rid.now c.in_ok-judged.ensures.others c.in_ok-judged.ensures.same)
+    (claims_on c.judge.new.self c.prepare_install.new.self c.write.new.self
+    (claims_same c.judge.new.self c.prepare_install.new.self c.args.rid.now c.in_ok-entry.ensures.others c.in_ok-entry.ensures.same)
+    (claims_written g.D.Disk.reads_as g.D.Disk.images c.prepare_install.new.self c.write.new.self c.args.rid.now c.args.caller c.in_ok-entry.entry c.in_ok-entry.parcel c.write.result
+    c.write.ensures.others c.write.ensures.wrote c.write.ensures.fault))
+
+pub returns-clause-claims : goal.returns-clause-claims
+returns-clause-claims g c =
+    claims_on c.args.self.now c.judge.new.self c.write.new.self
+    (claims_equal c.args.self.now c.judge.new.self c.args.rid.now c.in_ok-judged.ensures.others c.in_ok-judged.ensures.same)
+    (claims_on c.judge.new.self c.prepare_install.new.self c.write.new.self
+    (claims_same c.judge.new.self c.prepare_install.new.self c.args.rid.now c.in_ok-entry.ensures.others c.in_ok-entry.ensures.same)
+    (claims_written g.D.Disk.reads_as g.D.Disk.images c.prepare_install.new.self c.write.new.self c.args.rid.now c.args.caller c.in_ok-entry.entry c.in_ok-entry.parcel c.write.result
+    c.write.ensures.others c.write.ensures.wrote c.write.ensures.fault))
