@@ -1,5 +1,5 @@
 // Lists of parts.
-ghost use Rattle.std.specs.Prelude.{◌≡◌, ◌↔◌, ◌++◌, [], IsTrue, length, slice_get};
+ghost use Rattle.std.specs.Prelude.{◌≡◌, ◌↔◌, ◌++◌, [], IsNone, IsTrue, length, slice_get};
 ghost use Rattle.std.specs.Option.{option_copied, option_to_list};
 
 use crate::Part;
@@ -54,7 +54,8 @@ impl Parts {
 
     /// Takes the first part off, if there is one.
     pub fn pop_front(&mut self) -> Option<Part>
-        ensures { self.old ≡ option_to_list result ++ self.new }
+        ensures first { self.old ≡ option_to_list result ++ self.new }
+        ensures none { IsNone result → self.old ≡ [] }
     {
         self.parts.pop_front()
     }
