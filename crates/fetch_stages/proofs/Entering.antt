@@ -10,6 +10,7 @@ use Rattle.repo_slice.specs.Keeps.{Constants, Held, IsKeepCause, IsNoChange, Lea
 use Rattle.repo_slice.specs.declared.keep_fault.KeepFault.{KeepFault}
 use Rattle.repo_slice.specs.declared.keep_fault.KeepFault.TheVariants as fault
 use Rattle.fetch_stages.specs.Puts.{puts_of}
+use Rattle.fetch_stages.specs.Sections.{KeepsLoan}
 
 -- what is left where there is no call
 pub leaves_none : {K : Type 0} (constants : K → Constants) (loan faults : K → ℕ)
@@ -33,6 +34,14 @@ leaves_along constants loan faults held rid a b c f g = record {
   others = λ other stands apart.
       g.others other (subst (λ (k : Constants). IsTrue (k.stands other)) (sym f.constants_stay) stands) apart
       ∙ f.others other stands apart;
+}
+
+-- a loan that is kept, and kept on
+pub loan_along : {T : Type 0} (loan faults : T → ℕ) (a b c : T) → KeepsLoan loan faults a b → loan c ≡ loan b
+    → faults b ≤ faults c → KeepsLoan loan faults a c
+loan_along loan faults a b c f e h = record {
+  loan_stays = e ∙ f.loan_stays;
+  later = omega (arith, h, f.later);
 }
 
 -- a cause that came since a later moment came since an earlier one

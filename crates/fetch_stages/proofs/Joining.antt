@@ -3,7 +3,6 @@ use Rattle.std.proofs.Common.{◌≡◌, ℕ, List, [], ◌∷◌, ◌++◌, inr
 use Rattle.std.proofs.lemmas.List.{append-nil}
 use Rattle.rad_base.specs.declared.names.Rid.{Rid}
 use Rattle.commit_graph.specs.Objects.{Object}
-use Rattle.repo_entries.specs.Batches.{AreContents}
 use Rattle.repo_entries.specs.Items.{Item, put}
 use Rattle.repo_slice.specs.Keeps.{HasSlice, Held, Makes, StopsIn, put_told}
 use Rattle.repo_slice.specs.declared.keep_fault.KeepFault.{KeepFault}
@@ -13,11 +12,6 @@ use Rattle.fetch_stages.specs.Puts.{FindsPlace, Joins, MakesPlace, PutsAll, Puts
 use Rattle.fetch_stages.proofs.Cuts.{all_in-append, finished, joined, nothing_came}
 use Rattle.fetch_stages.proofs.Entering.{makes_none, puts_along, stops_behind_puts, stops_done}
 use Rattle.fetch_stages.proofs.Holding.{holds_along, holds_none, holds_one}
-
--- what is left of contents is contents
-pub contents_left : (left left' : List Object) (o : Object) → left ≡ o ∷ left' → AreContents left → AreContents left'
-contents_left left left' o e h =
-    let each : AreContents (o ∷ left') = subst (λ (l : List Object). AreContents l) e h in each.1
 
 -- the first of the objects joined, and these are left
 pub record HasCome {K : Type 0} (made : K → List Item → Type 0) (held : K → Rid → Held) (rid : Rid)
@@ -75,14 +69,14 @@ module _ {K : Type 0} (made : K → List Item → Type 0) (held : K → Rid → 
       → HasCome made held rid caller k k waiting objects objects waiting
   none_came k waiting objects = record { shown = []; all = refl; joins = joins_none k waiting }
 
-  -- one more came
-  pub one_came : (a b c : K) (w objects left u left' v : List Object) (o : Object)
-      → HasCome made held rid caller a b w objects left u → left ≡ o ∷ left'
-      → Joins made held rid caller b c u (o ∷ []) v → HasCome made held rid caller a c w objects left' v
-  one_came a b c w objects left u left' v o h e f = record {
-    shown = h.shown ++ o ∷ [];
-    all = h.all ∙ ap (λ (l : List Object). h.shown ++ l) e ∙ sym (append_assoc h.shown (o ∷ []) left');
-    joins = joins_along a b c w h.shown u (o ∷ []) v h.joins f;
+  -- more came
+  pub more_came : (a b c : K) (w objects left u left' v os : List Object)
+      → HasCome made held rid caller a b w objects left u → left ≡ os ++ left'
+      → Joins made held rid caller b c u os v → HasCome made held rid caller a c w objects left' v
+  more_came a b c w objects left u left' v os h e f = record {
+    shown = h.shown ++ os;
+    all = h.all ∙ ap (λ (l : List Object). h.shown ++ l) e ∙ sym (append_assoc h.shown os left');
+    joins = joins_along a b c w h.shown u os v h.joins f;
   }
 
   -- all came
@@ -109,14 +103,14 @@ module _ {K : Type 0} (made : K → List Item → Type 0) (held : K → Rid → 
         stops_behind_puts made rid caller end a b c x.0 y.3 why x.2.entered y.6,
       )
 
-  -- a refusal at the next one
-  pub stops_coming : (end : ℕ) (a b c : K) (w objects left u left' : List Object) (o : Object) (why : KeepFault)
-      → HasCome made held rid caller a b w objects left u → left ≡ o ∷ left'
-      → StopsJoining made rid caller end b c u (o ∷ []) why → StopsJoining made rid caller end a c w objects why
-  stops_coming end a b c w objects left u left' o why h e s before puts cut =
-      let t = stops_along end a b c w h.shown u (o ∷ []) why h.joins s before puts cut in
-      let all : objects ≡ (h.shown ++ o ∷ []) ++ left' =
-      h.all ∙ ap (λ (l : List Object). h.shown ++ l) e ∙ sym (append_assoc h.shown (o ∷ []) left') in (
+  -- a refusal at the next ones
+  pub stops_coming : (end : ℕ) (a b c : K) (w objects left u left' os : List Object) (why : KeepFault)
+      → HasCome made held rid caller a b w objects left u → left ≡ os ++ left'
+      → StopsJoining made rid caller end b c u os why → StopsJoining made rid caller end a c w objects why
+  stops_coming end a b c w objects left u left' os why h e s before puts cut =
+      let t = stops_along end a b c w h.shown u os why h.joins s before puts cut in
+      let all : objects ≡ (h.shown ++ os) ++ left' =
+      h.all ∙ ap (λ (l : List Object). h.shown ++ l) e ∙ sym (append_assoc h.shown os left') in (
         t.0,
         t.1 ++ left',
         all ∙ ap (λ (l : List Object). l ++ left') t.2 ∙ append_assoc t.0 t.1 left',

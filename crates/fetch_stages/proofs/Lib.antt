@@ -1,6 +1,10 @@
+pub mod Contents
 pub mod Cuts
 pub mod Entering
 pub mod Fronts
 pub mod Holding
 pub mod Joining
 pub mod OneCut
+pub mod Parts
+pub mod Reading
+pub mod Windows

@@ -1,3 +1,5 @@
 pub mod Batches
+pub mod Pieces
 pub mod Puts
+pub mod Sections
 pub mod Waiting

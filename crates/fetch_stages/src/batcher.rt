@@ -3,7 +3,7 @@ ghost use Rattle.std.specs.Prelude.{◌≡◌, ◌↔◌, ◌≤◌, List, [], �
 ghost use Rattle.std.specs.Prelude.{IfErr, IsTrue, OnErr, OnOk};
 ghost use Rattle.git_object.specs.declared.kind.Kind.{Kind};
 ghost use Rattle.commit_graph.specs.Objects.{Object};
-ghost use Rattle.repo_entries.specs.Batches.{AreContents, IsWithin};
+ghost use Rattle.repo_entries.specs.Batches.{IsWithin};
 ghost use Rattle.repo_entries.specs.Items.{put};
 ghost use Rattle.repo_slice.specs.Keeps.{IsKeepCause, IsNoChange, LeavesOthers, StopsIn};
 ghost use Rattle.fetch_stages.specs.Puts.{FindsPlace, Joins, MakesPlace, PutsAll, PutsBatches};
@@ -13,7 +13,6 @@ use git_object::Kind;
 use rad_base::{Bytes, NoMemory, Rid};
 use repo_slice::{Batch, Keep, KeepFault};
 use std::alloc::Global;
-use std::collections::VecDeque;
 use std::marker::Model;
 
 /// The most objects of a batch.
@@ -153,30 +152,6 @@ impl Batcher {
     {
         self.make_place(keep, rid, kind, &content)?;
         self.push(kind, content)?;
-        Ok(())
-    }
-
-    /// Adds objects, in order.
-    pub fn add_all<K: Keep>(
-        &mut self,
-        keep: &mut K,
-        rid: &Rid,
-        mut objects: VecDeque<(Kind, Bytes)>,
-    ) -> Result<(), KeepFault>
-        requires stands { IsTrue ((K.constants keep.old).stands rid.now) }
-        requires sizes { AreContents objects.items }
-        ensures leaves { LeavesOthers K.constants K.loan K.faults K.held rid.now keep.old keep.new }
-        ensures joins { OnOk result (Joins K.made K.held rid.now (K.constants keep.old).caller
-            keep.old keep.new self.old objects.items self.new) }
-        ensures stops { IfErr result (StopsJoining K.made rid.now (K.constants keep.old).caller
-            (K.end keep.new) keep.old keep.new self.old objects.items) }
-        ensures cause { IfErr result (IsKeepCause (K.held keep.old rid.now).objects
-            (K.faults keep.old) (K.faults keep.new)) }
-        ensures unchanged { IfErr result IsNoChange }
-    {
-        'adding: while let Some((kind, content)) = objects.pop_front() {
-            self.add(keep, rid, kind, content)?;
-        }
         Ok(())
     }
 

@@ -1,10 +1,18 @@
-//! The steps of a job: objects that come one after the other are put in batches.
+//! The steps of a job: a section is read in pieces, and its objects are put in batches.
 #![tactic(auto)]
 
 mod batcher;
+mod input;
 mod laws;
+mod piece;
+mod section;
+mod section_stop;
+mod taken;
 #[cfg(test)]
 mod tests;
 
 pub use batcher::Batcher;
+pub use input::{Input, piece_buffer};
 pub use laws::{fronts_are_put_first, one_cut};
+pub use section::{Section, put_section};
+pub use section_stop::SectionStop;

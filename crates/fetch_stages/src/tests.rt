@@ -1,12 +1,13 @@
-// Which batches are put, over a keep in memory.
+// Which batches are put, and how sections end, over a keep in memory.
 ghost use Rattle.std.specs.Prelude.{◌≤◌, IfOk, length};
 
-use crate::Batcher;
+use crate::*;
+use fetch_wire::{Break, Part, Which};
 use git_object::Kind;
 use rad_base::{Bytes, Oid, Rid};
+use rad_outside::MemSource;
 use repo_slice::{KeepFault, Made, MemKeep};
 use std::alloc::Global;
-use std::collections::VecDeque;
 use std::test::Fail;
 
 const RID: Rid = Rid(Oid([7; 20]));
@@ -75,16 +76,116 @@ fn batches_are_as_long_as_they_may_be(rt: HostRuntime) -> Result<(), Fail> {
 }
 
 #[test]
-fn the_first_refusal_is_the_answer(rt: HostRuntime) -> Result<(), Fail> {
+fn a_refused_put_is_the_answer(rt: HostRuntime) -> Result<(), Fail> {
     let alloc = rt.alloc();
     let mut keep = MemKeep::new(alloc, 1);
-    let mut objects = VecDeque::new(alloc);
-    objects.push_back((Kind::Blob, zeros(alloc, 5_000_000)?))?;
-    objects.push_back((Kind::Tag, zeros(alloc, 1)?))?;
     let mut batcher = Batcher::new(alloc);
-    assert_eq!(rt; batcher.add_all(&mut keep, &RID, objects), Ok(()));
+    add_run(alloc, &mut batcher, &mut keep, 1, 5_000_000)?;
+    add_run(alloc, &mut batcher, &mut keep, 1, 1)?;
     assert_eq!(rt; counts(alloc, &keep)?.as_slice(), [1].as_slice());
     assert_eq!(rt; batcher.finish(&mut keep, &RID), Err(KeepFault::DiskFault));
     assert_eq!(rt; counts(alloc, &keep)?.as_slice(), [1, 0].as_slice());
+    Ok(())
+}
+
+// Two objects of 2 and 0 bytes, whose units begin at 1 and 9, and the end word at 15.
+const TIPS: &[u8] = b"DO\x03\0\0\0\x02abO\x04\0\0\0\0end\nmore";
+
+// A section of tips, how many bytes of it may be read, the take that fails, how many puts do not,
+// how it ends, and how many objects each put has.
+#[derive(Clone, Copy)]
+struct Row<'a> {
+    bytes: &'a [u8],
+    limit: u64,
+    fails: &'a [u64],
+    calls: u64,
+    wanted: Result<u64, SectionStop>,
+    counts: &'a [usize],
+}
+
+fn rows() -> [Row<'static>; 8] {
+    let whole = Row {
+        bytes: TIPS,
+        limit: 19,
+        fails: &[],
+        calls: 9,
+        wanted: Ok(19),
+        counts: &[2],
+    };
+    let cut = Row {
+        bytes: b"DO\x03\0\0\0\x02abO\x04\0",
+        wanted: Err(SectionStop::Ends(9)),
+        counts: &[],
+        ..whole
+    };
+    let long = Row {
+        limit: 18,
+        wanted: Err(SectionStop::TooLong),
+        counts: &[],
+        ..whole
+    };
+    let broken = Row {
+        bytes: b"DO\x03\0\0\0\x02abO\x05\0\0\0\0end\n",
+        wanted: Err(SectionStop::Bad(Break {
+            place: 9,
+            shown: 15,
+        })),
+        counts: &[],
+        ..whole
+    };
+    let unread = Row {
+        fails: &[1],
+        wanted: Err(SectionStop::ReadFault),
+        counts: &[],
+        ..whole
+    };
+    let refused = Row {
+        calls: 0,
+        wanted: Err(SectionStop::Keep(KeepFault::DiskFault)),
+        counts: &[0],
+        ..whole
+    };
+    let declined = Row {
+        bytes: b"R\x02",
+        wanted: Ok(2),
+        counts: &[],
+        ..whole
+    };
+    let empty = Row {
+        bytes: b"",
+        wanted: Err(SectionStop::Ends(0)),
+        counts: &[],
+        ..whole
+    };
+    [whole, cut, long, broken, unread, refused, declined, empty]
+}
+
+// An input of these bytes, in pieces of 7.
+fn input_of(alloc: Global, bytes: &[u8], fails: &[u64]) -> Result<Input<MemSource>, Fail> {
+    let source = MemSource::new(bytes.to_vec(alloc)?, 7, fails.to_vec(alloc)?);
+    Ok(Input::new(source, piece_buffer(alloc)?))
+}
+
+#[test]
+fn sections_are_put_as_far_as_they_go(rt: HostRuntime) -> Result<(), Fail> {
+    let alloc = rt.alloc();
+    for row in rows() {
+        let mut keep = MemKeep::new(alloc, row.calls);
+        let mut input = input_of(alloc, row.bytes, row.fails)?;
+        let section = put_section(alloc, &mut input, Which::Tips, &mut keep, &RID, row.limit);
+        assert_eq!(rt; section.map(|section| section.used), row.wanted);
+        assert_eq!(rt; counts(alloc, &keep)?.as_slice(), row.counts);
+    }
+    Ok(())
+}
+
+#[test]
+fn what_follows_a_section_waits(rt: HostRuntime) -> Result<(), Fail> {
+    let alloc = rt.alloc();
+    let mut keep = MemKeep::new(alloc, 9);
+    let mut input = input_of(alloc, TIPS, &[])?;
+    let section = put_section(alloc, &mut input, Which::Tips, &mut keep, &RID, 99)?;
+    assert!(rt; matches!(section.head, Some(Part::TipsHead)));
+    assert_eq!(rt; input.rest(), b"mo".as_slice());
     Ok(())
 }

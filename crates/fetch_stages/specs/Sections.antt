@@ -1,0 +1,191 @@
+-- What reading a section and putting its objects comes to.
+use Rattle.std.specs.Prelude.{◌≡◌, ℕ, ◌-◌, ◌≤◌, false, List, [], ◌∷◌, ◌++◌, length, take}
+use Rattle.std.specs.Prelude.{Option, None, Some, Result, Ok, Err}
+use Rattle.std.specs.List.{flat_map}
+use Rattle.std.specs.Option.{option_or}
+use Rattle.hex.specs.Hex.{IsBytes}
+use Rattle.rad_base.specs.Faults.{Rose}
+use Rattle.rad_base.specs.declared.names.Rid.{Rid}
+use Rattle.commit_graph.specs.Objects.{Object, ObjectMap}
+use Rattle.repo_entries.specs.Items.{Item}
+use Rattle.repo_slice.specs.Keeps.{Held, IsKeepCause, IsNoChange, StopsIn}
+use Rattle.unit_reader.specs.Units.{At, Broken}
+use Rattle.fetch_wire.specs.Judging.{is_over}
+use Rattle.fetch_wire.specs.SectionReaders.{HasRead, unit_of}
+use Rattle.fetch_wire.specs.SectionReadings.{ReadsAs, read_of}
+use Rattle.fetch_wire.specs.declared.part.Part.{Part}
+use Rattle.fetch_wire.specs.declared.part.Part.TheVariants as part
+use Rattle.fetch_wire.specs.declared.part.Which.{Which}
+use Rattle.fetch_wire.specs.declared.section_reader.SectionReader.{SectionReader}
+use Rattle.fetch_wire.specs.declared.units.SectionUnits.{SectionUnits}
+use Rattle.fetch_stages.specs.Batches.{IsCut, IsFrontCut, IsOpenCut}
+use Rattle.fetch_stages.specs.Pieces.{Uses}
+use Rattle.fetch_stages.specs.Puts.{Joins, PutsBatches, StopsJoining, puts_of}
+use Rattle.fetch_stages.specs.declared.section_stop.SectionStop.{SectionStop}
+use Rattle.fetch_stages.specs.declared.section_stop.SectionStop.TheVariants as stop
+use Rattle.fetch_stages.specs.declared.piece.Used.{Used}
+use Rattle.fetch_stages.specs.declared.section.Section.{Section}
+use Rattle.fetch_stages.specs.declared.taken.Taken.{Taken}
+
+-- the object of a part, if it is one
+abbrev pub object_in : Part → List Object
+object_in (part.Object kind content) = (kind, content) ∷ []
+object_in (part.Offer offer) = []
+object_in part.SigsHead = []
+object_in part.TipsHead = []
+object_in part.End = []
+object_in (part.Refused code) = []
+
+-- the objects among parts, in order
+abbrev pub objects_among : List Part → List Object
+objects_among parts = flat_map object_in parts
+
+-- a part that is no object
+abbrev pub head_in : Part → Option Part
+head_in (part.Object kind content) = None
+head_in (part.Offer offer) = Some (part.Offer offer)
+head_in part.SigsHead = Some part.SigsHead
+head_in part.TipsHead = Some part.TipsHead
+head_in part.End = Some part.End
+head_in (part.Refused code) = Some (part.Refused code)
+
+-- the first part that is no object: the head of a section, or a refusal in its place
+abbrev pub head_of : List Part → Option Part
+head_of [] = None
+head_of (p ∷ parts) = option_or (head_in p) (head_of parts)
+
+-- these bytes give these parts and are inside the section, in or before the unit of a place
+pub record IsInside (which : Which) (bytes : List ℕ) (parts : List Part) (place : ℕ) : Type 0 where
+  pub units : SectionUnits
+  pub held : List ℕ
+  pub goes_on : is_over units ≡ false
+  pub reads : read_of which bytes ≡ record { items = parts; place = At units held [] }
+  pub begins : units.place ≡ place
+
+-- these bytes give these parts up to the end, whatever follows them
+abbrev pub ReadsToEnd : Which → List ℕ → List Part → Type 0
+ReadsToEnd which bytes parts = (rest : List ℕ) → ReadsAs which (bytes ++ rest) parts rest
+
+-- the objects are put in their batches
+pub record PutsAllOf {K : Type 0} (made : K → List Item → Type 0) (held : K → Rid → Held)
+    (rid : Rid) (caller : ℕ) (old new : K) (objects : List Object) : Type 0 where
+  pub batches : List (List Object)
+  pub cut : IsCut objects batches
+  pub puts : PutsBatches made held rid caller old new batches
+
+-- the objects are put but for the batch that more may join
+pub record PutsSome {K : Type 0} (made : K → List Item → Type 0) (held : K → Rid → Held)
+    (rid : Rid) (caller : ℕ) (old new : K) (objects waiting : List Object) : Type 0 where
+  pub batches : List (List Object)
+  pub cut : IsOpenCut objects batches waiting
+  pub puts : PutsBatches made held rid caller old new batches
+
+-- a reader of a section has read bytes
+abbrev pub HasReadBytes : SectionReader → Type 0
+HasReadBytes reader =
+    (which : Which) × (fed : List ℕ) × (parts : List Part) × HasRead which fed parts reader
+    × IsBytes fed
+
+-- why a call of the keep was refused, if one was
+abbrev pub HasKeepCause : Option ObjectMap → ℕ → ℕ → SectionStop → Type 0
+HasKeepCause objects before now (stop.Keep why) =
+    IsKeepCause objects before now why × IsNoChange why
+HasKeepCause objects before now stop.ReadFault = Unit {0}
+HasKeepCause objects before now (stop.Ends place) = Unit {0}
+HasKeepCause objects before now stop.TooLong = Unit {0}
+HasKeepCause objects before now (stop.Bad broken) = Unit {0}
+HasKeepCause objects before now stop.NoMemory = Unit {0}
+
+-- What a piece came to, fed to a reader that has read these bytes: bytes of it are used, and its
+-- parts taken; or those before a broken unit; or of the parts so far the first, and a call of the
+-- keep was refused.
+abbrev pub PutsPiece : {K : Type 0} → (K → List Item → Type 0) → (K → Rid → Held) → Rid → ℕ → ℕ
+    → K → K → Which → List ℕ → List Part → List ℕ → Taken → Taken → SectionReader
+    → Result Used SectionStop → Type 0
+PutsPiece made held rid caller end old new which fed parts piece before after reader (Ok used) =
+    (more : List Part) × HasRead which (fed ++ take used.count piece) (parts ++ more) reader
+    × (used.count ≤ length piece) × (used.done ≡ is_over (unit_of reader))
+    × (used.done ≡ false → used.count ≡ length piece)
+    × (after.head ≡ option_or before.head (head_of more))
+    × Joins made held rid caller old new before.batcher (objects_among more) after.batcher
+PutsPiece made held rid caller end old new which fed parts piece before after reader
+    (Err (stop.Bad broken)) =
+    (more : List Part)
+    × (read_of which (fed ++ piece) ≡ record { items = parts ++ more; place = Broken broken })
+    × Joins made held rid caller old new before.batcher (objects_among more) after.batcher
+PutsPiece made held rid caller end old new which fed parts piece before after reader
+    (Err stop.NoMemory) = (new ≡ old) × (after ≡ before)
+PutsPiece made held rid caller end old new which fed parts piece before after reader
+    (Err (stop.Keep why)) =
+    (more : List Part) × (used : ℕ) × (used ≤ length piece)
+    × ((read_of which (fed ++ take used piece)).items ≡ parts ++ more)
+    × StopsJoining made rid caller end old new before.batcher (objects_among more) why
+PutsPiece made held rid caller end old new which fed parts piece before after reader
+    (Err stop.ReadFault) = ⊥
+PutsPiece made held rid caller end old new which fed parts piece before after reader
+    (Err (stop.Ends place)) = ⊥
+PutsPiece made held rid caller end old new which fed parts piece before after reader
+    (Err stop.TooLong) = ⊥
+
+-- Where the bytes of a section stop that is not put: of those that were taken these are used and
+-- others wait. At a refused call of the keep its parts are those of more bytes that wait.
+abbrev pub ComesTo : Which → ℕ → List ℕ → List ℕ → List Part → Type 0 → SectionStop → Type 0
+ComesTo which limit used after parts at_end stop.ReadFault =
+    (place : ℕ) × IsInside which used parts place
+ComesTo which limit used after parts at_end (stop.Ends place) =
+    IsInside which used parts place × (after ≡ []) × at_end
+ComesTo which limit used after parts at_end stop.TooLong =
+    (place : ℕ) × IsInside which used parts place × (length used ≡ limit)
+ComesTo which limit used after parts at_end (stop.Bad broken) =
+    read_of which (used ++ take (limit - length used) after)
+    ≡ record { items = parts; place = Broken broken }
+ComesTo which limit used after parts at_end stop.NoMemory =
+    (place : ℕ) × IsInside which used parts place
+ComesTo which limit used after parts at_end (stop.Keep why) =
+    (more : ℕ) × (more ≤ limit - length used)
+    × ((read_of which (used ++ take more after)).items ≡ parts)
+
+-- what was made of objects where a section stops: they are put but for the batch that more may
+-- join; or the first of them joined, and at a put of these a call was refused
+abbrev pub PutsUpTo : {K : Type 0} → (K → List Item → Type 0) → (K → Rid → Held) → Rid → ℕ → ℕ
+    → K → K → List Object → SectionStop → Type 0
+PutsUpTo made held rid caller end old new objects (stop.Keep why) =
+    (front : List Object) × (rest : List Object) × (objects ≡ front ++ rest)
+    × (batches : List (List Object)) × IsFrontCut front batches
+    × StopsIn made rid caller end old new (puts_of rid caller batches) why
+PutsUpTo made held rid caller end old new objects other =
+    (waiting : List Object) × PutsSome made held rid caller old new objects waiting
+
+-- a section of at most so many bytes is read and its objects are put
+pub record PutsSection {K : Type 0} (made : K → List Item → Type 0) (held : K → Rid → Held)
+    (rid : Rid) (caller : ℕ) (old new : K) (which : Which) (limit : ℕ)
+    (left left' : Option (List ℕ)) (before after : List ℕ) (section : Section) : Type 0 where
+  pub bytes : List ℕ
+  pub parts : List Part
+  pub uses : Uses left left' before bytes after
+  pub within : length bytes ≤ limit
+  pub ends : ReadsToEnd which bytes parts
+  pub puts : PutsAllOf made held rid caller old new (objects_among parts)
+  pub head : section.head ≡ head_of parts
+  pub count : section.used ≡ length bytes
+
+-- a section of at most so many bytes is not put, and what was made of its objects
+pub record StopsSection {K : Type 0} (made : K → List Item → Type 0) (held : K → Rid → Held)
+    (rid : Rid) (caller end : ℕ) (old new : K) (which : Which) (limit : ℕ)
+    (left left' : Option (List ℕ)) (before after : List ℕ) (at_end : Type 0) (why : SectionStop) : Type 0 where
+  pub used : List ℕ
+  pub parts : List Part
+  pub uses : Uses left left' before used after
+  pub within : length used ≤ limit
+  pub comes : ComesTo which limit used after parts at_end why
+  pub puts : PutsUpTo made held rid caller end old new (objects_among parts) why
+
+-- the input failed only where its count of faults rose
+abbrev pub HasReadCause : ℕ → ℕ → SectionStop → Type 0
+HasReadCause before now stop.ReadFault = Rose before now
+HasReadCause before now other = Unit {0}
+
+-- which loan it is stays, and the count of faults never falls
+pub record KeepsLoan {T : Type 0} (loan faults : T → ℕ) (old new : T) : Type 0 where
+  pub loan_stays : loan new ≡ loan old
+  pub later : faults old ≤ faults new
