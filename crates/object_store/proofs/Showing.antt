@@ -19,7 +19,7 @@ use Rattle.legal_history.specs.Histories.{Legal, LegalFrom}
 use Rattle.legal_history.specs.Replays.{Standing, after_item, after_items, after_put, is_same, nothing_stands, replay, replayed_state, with_objects}
 use Rattle.legal_history.proofs.GoodStandings.{put_grows, same_is}
 use Rattle.object_store.specs.Repositories.{StandsAs, StandsKnown}
-use Rattle.object_store.specs.Shown.{Concerns, IsBare, IsShown}
+use Rattle.object_store.specs.Shown.{Concerns, IsBare, ShowsRepository}
 use Rattle.object_store.specs.declared.repository.Repository.{Repository}
 use Rattle.object_store.proofs.Keys.{is_itself, same_or_other}
 
@@ -92,7 +92,7 @@ made_lives rid s (install of id remotes caller) f c =
 made_lives rid s (missed of left caller) f c = absurd c
 made_lives rid s (refused of why caller) f c = absurd c
 
-shown_lives : (rid : Rid) (s : Standing) (items : List Item) → AllByRecursion IsFilled items → IsShown rid items → Lives (after_items rid s items)
+shown_lives : (rid : Rid) (s : Standing) (items : List Item) → AllByRecursion IsFilled items → ShowsRepository rid items → Lives (after_items rid s items)
 shown_lives rid s [] f shown = absurd shown
 shown_lives rid s (item ∷ items) f (inl now) = lives_items rid (after_item rid s item) items (made_lives rid s item f.0 now)
 shown_lives rid s (item ∷ items) f (inr later) = shown_lives rid (after_item rid s item) items f.1 later
@@ -113,7 +113,7 @@ nothing_made rid s (install of id remotes caller) other = by_test (is_same rid o
 nothing_made rid s (missed of left caller) other = refl
 nothing_made rid s (refused of why caller) other = refl
 
-unshown_nothing : (rid : Rid) (s : Standing) (items : List Item) → (IsShown rid items → ⊥) → after_items rid s items ≡ s
+unshown_nothing : (rid : Rid) (s : Standing) (items : List Item) → (ShowsRepository rid items → ⊥) → after_items rid s items ≡ s
 unshown_nothing rid s [] other = refl
 unshown_nothing rid s (item ∷ items) other =
     ap (λ (x : Standing). after_items rid x items) (nothing_made rid s item (λ now. other (inl now))) ∙ unshown_nothing rid s items (λ later. other (inr later))
@@ -126,18 +126,18 @@ concerns_or_not rid (install of id remotes caller) = elim (same_or_other of rid)
 concerns_or_not rid (missed of left caller) = inr (λ c. c)
 concerns_or_not rid (refused of why caller) = inr (λ c. c)
 
-shown_or_not : (rid : Rid) (items : List Item) → IsShown rid items ⊎ (IsShown rid items → ⊥)
+shown_or_not : (rid : Rid) (items : List Item) → ShowsRepository rid items ⊎ (ShowsRepository rid items → ⊥)
 shown_or_not rid [] = inr (λ s. s)
 shown_or_not rid (item ∷ items) = elim (concerns_or_not rid item) [
   | inl now ↦ inl (inl now)
   | inr other ↦ later other (shown_or_not rid items)
 ]
   where
-    later : (Concerns rid item → ⊥) → IsShown rid items ⊎ (IsShown rid items → ⊥) → IsShown rid (item ∷ items) ⊎ (IsShown rid (item ∷ items) → ⊥)
+    later : (Concerns rid item → ⊥) → ShowsRepository rid items ⊎ (ShowsRepository rid items → ⊥) → ShowsRepository rid (item ∷ items) ⊎ (ShowsRepository rid (item ∷ items) → ⊥)
     later other (inl shown) = inl (inr shown)
     later other (inr none) = inr (neither other none)
       where
-        neither : (Concerns rid item → ⊥) → (IsShown rid items → ⊥) → IsShown rid (item ∷ items) → ⊥
+        neither : (Concerns rid item → ⊥) → (ShowsRepository rid items → ⊥) → ShowsRepository rid (item ∷ items) → ⊥
         neither a b (inl now) = a now
         neither a b (inr shown) = b shown
 
@@ -147,14 +147,14 @@ bare_dead s objects id (inl some) = some id
 bare_dead s objects id (inr there) = not_none there.1 (sym there.2 ∙ ap (λ (m : ObjectMap). m there.0) objects)
 
 -- a repository with nothing in it is in no entry
-pub bare_hidden : (keyring : Contents) (o : Option Repository) (r : Repository) (rid : Rid) (items : List Item) → Legal keyring items → o ≡ Some r → StandsKnown o rid items → IsBare r.slice → IsShown rid items → ⊥
+pub bare_hidden : (keyring : Contents) (o : Option Repository) (r : Repository) (rid : Rid) (items : List Item) → Legal keyring items → o ≡ Some r → StandsKnown o rid items → IsBare r.slice → ShowsRepository rid items → ⊥
 bare_hidden keyring o r rid items legal e stands bare shown =
     let h : StandsAs r rid items = subst (λ (x : Option Repository). StandsKnown x rid items) e stands in
     bare_dead (replay rid items) (sym h.objects ∙ bare.0) (sym (ap (λ (x : State). x.id) h.state) ∙ bare.1)
     (shown_lives rid nothing_stands items (filled_from keyring [] items legal) shown)
 
 -- and one that is not known in none
-pub unknown_hidden : (keyring : Contents) (o : Option Repository) (rid : Rid) (items : List Item) → Legal keyring items → o ≡ None → StandsKnown o rid items → IsShown rid items → ⊥
+pub unknown_hidden : (keyring : Contents) (o : Option Repository) (rid : Rid) (items : List Item) → Legal keyring items → o ≡ None → StandsKnown o rid items → ShowsRepository rid items → ⊥
 unknown_hidden keyring None rid items legal none h shown =
     bare_dead (replay rid items) (ap (λ (s : Standing). s.objects) h.0) (ap (λ (s : Standing). s.id) h.0)
     (shown_lives rid nothing_stands items (filled_from keyring [] items legal) shown)
@@ -162,12 +162,12 @@ unknown_hidden keyring (Some r) rid items legal none h shown = cc none
 
 -- one with something in it is in an entry
 pub full_shown : (o : Option Repository) (r : Repository) (rid : Rid) (items : List Item) → o ≡ Some r → StandsKnown o rid items → (IsBare r.slice → ⊥)
-    → IsShown rid items × (objects_of r.slice ≡ (replay rid items).objects) × (state_of r.slice ≡ replayed_state rid items)
+    → ShowsRepository rid items × (objects_of r.slice ≡ (replay rid items).objects) × (state_of r.slice ≡ replayed_state rid items)
 full_shown o r rid items e h full =
     let at : StandsAs r rid items = subst (λ (x : Option Repository). StandsKnown x rid items) e h in
     (by_decision at (shown_or_not rid items), at.objects, at.state)
   where
-    by_decision : StandsAs r rid items → IsShown rid items ⊎ (IsShown rid items → ⊥) → IsShown rid items
+    by_decision : StandsAs r rid items → ShowsRepository rid items ⊎ (ShowsRepository rid items → ⊥) → ShowsRepository rid items
     by_decision at (inl shown) = shown
     by_decision at (inr none) =
         let nothing = unshown_nothing rid nothing_stands items none in

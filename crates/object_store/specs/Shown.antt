@@ -16,9 +16,9 @@ Concerns rid (missed of left caller) = ⊥
 Concerns rid (refused of why caller) = ⊥
 
 -- one of the entries is
-abbrev pub IsShown : Rid → List Item → Type 0
-IsShown rid [] = ⊥
-IsShown rid (item ∷ items) = Concerns rid item ⊎ IsShown rid items
+abbrev pub ShowsRepository : Rid → List Item → Type 0
+ShowsRepository rid [] = ⊥
+ShowsRepository rid (item ∷ items) = Concerns rid item ⊎ ShowsRepository rid items
 
 -- the slice has no object and no identity
 abbrev pub IsBare : Slice → Type 0
@@ -26,6 +26,6 @@ IsBare slice = (objects_of slice ≡ nothing_stands.objects) × ((state_of slice
 
 -- what the entries make of the repository; none exactly where no put or install names it
 abbrev pub IsShownAs : Rid → List Item → Option (Bor Slice) → Type 0
-IsShownAs rid items None = IsShown rid items → ⊥
-IsShownAs rid items (Some slice) = IsShown rid items × (objects_of slice.now ≡ (replay rid items).objects)
+IsShownAs rid items None = ShowsRepository rid items → ⊥
+IsShownAs rid items (Some slice) = ShowsRepository rid items × (objects_of slice.now ≡ (replay rid items).objects)
     × (state_of slice.now ≡ replayed_state rid items)
