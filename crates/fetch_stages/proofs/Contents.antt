@@ -23,7 +23,7 @@ use Rattle.fetch_wire.specs.declared.part.Which.TheVariants as which
 use Rattle.fetch_wire.specs.declared.section_reader.SectionReader.{SectionReader}
 use Rattle.fetch_wire.specs.declared.units.SectionUnits.{SectionUnits}
 use Rattle.fetch_wire.proofs.SectionsSpelled.{read_is_spelled}
-use Rattle.fetch_stages.specs.Sections.{ReadsToEnd, object_in, objects_among}
+use Rattle.fetch_stages.specs.Sections.{ReadsToEnd, object_of_part, objects_among}
 use Rattle.fetch_stages.proofs.Parts.{contents_before}
 
 -- bytes behind bytes
@@ -97,7 +97,7 @@ contents_read w bytes r fits e =
 contents_last : (parts more : List Part) → AreContents (objects_among (parts ++ more)) → AreContents (objects_among more)
 contents_last parts more h =
     contents_before (objects_among parts) (objects_among more)
-    (subst (λ (l : List _). AreContents l) (flat_map-append object_in parts more) h)
+    (subst (λ (l : List _). AreContents l) (flat_map-append object_of_part parts more) h)
 
 -- what the bytes that a reader has read give
 pub reads_so_far : (w : Which) (fed : List ℕ) (parts : List Part) (reader : SectionReader) → HasRead w fed parts reader

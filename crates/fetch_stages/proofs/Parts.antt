@@ -4,7 +4,7 @@ use Rattle.std.specs.Option.{option_or}
 use Rattle.commit_graph.specs.Objects.{Object}
 use Rattle.repo_entries.specs.Batches.{AreContents}
 use Rattle.fetch_wire.specs.declared.part.Part.{Part}
-use Rattle.fetch_stages.specs.Sections.{head_in, head_of, object_in, objects_among}
+use Rattle.fetch_stages.specs.Sections.{head_in, head_of, object_of_part, objects_among}
 
 -- contents before contents
 pub contents_before : (xs ys : List Object) → AreContents (xs ++ ys) → AreContents ys
@@ -15,12 +15,12 @@ contents_before (x ∷ xs) ys h = contents_before xs ys h.1
 pub contents_left_in : (parts left : List Part) (p : Part) → parts ≡ p ∷ left
     → AreContents (objects_among parts) → AreContents (objects_among left)
 contents_left_in parts left p e h =
-    contents_before (object_in p) (objects_among left)
+    contents_before (object_of_part p) (objects_among left)
     (subst (λ (l : List Part). AreContents (objects_among l)) e h)
 
 -- the objects of the first part, and those of the others
 pub objects_first : (parts left : List Part) (p : Part) → parts ≡ p ∷ left
-    → objects_among parts ≡ object_in p ++ objects_among left
+    → objects_among parts ≡ object_of_part p ++ objects_among left
 objects_first parts left p e = ap objects_among e
 
 or_assoc : (a b c : Option Part) → option_or a (option_or b c) ≡ option_or (option_or a b) c

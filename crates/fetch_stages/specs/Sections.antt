@@ -28,17 +28,17 @@ use Rattle.fetch_stages.specs.declared.section.Section.{Section}
 use Rattle.fetch_stages.specs.declared.taken.Taken.{Taken}
 
 -- the object of a part, if it is one
-abbrev pub object_in : Part → List Object
-object_in (part.Object kind content) = (kind, content) ∷ []
-object_in (part.Offer offer) = []
-object_in part.SigsHead = []
-object_in part.TipsHead = []
-object_in part.End = []
-object_in (part.Refused code) = []
+abbrev pub object_of_part : Part → List Object
+object_of_part (part.Object kind content) = (kind, content) ∷ []
+object_of_part (part.Offer offer) = []
+object_of_part part.SigsHead = []
+object_of_part part.TipsHead = []
+object_of_part part.End = []
+object_of_part (part.Refused code) = []
 
 -- the objects among parts, in order
 abbrev pub objects_among : List Part → List Object
-objects_among parts = flat_map object_in parts
+objects_among parts = flat_map object_of_part parts
 
 -- a part that is no object
 abbrev pub head_in : Part → Option Part
@@ -55,7 +55,7 @@ head_of [] = None
 head_of (p ∷ parts) = option_or (head_in p) (head_of parts)
 
 -- these bytes give these parts and are inside the section, in or before the unit of a place
-pub record IsInside (which : Which) (bytes : List ℕ) (parts : List Part) (place : ℕ) : Type 0 where
+pub record EndsInside (which : Which) (bytes : List ℕ) (parts : List Part) (place : ℕ) : Type 0 where
   pub units : SectionUnits
   pub held : List ℕ
   pub goes_on : is_over units ≡ false
@@ -131,16 +131,16 @@ PutsPiece made held rid caller end old new which fed parts piece before after re
 -- others wait. At a refused call of the keep its parts are those of more bytes that wait.
 abbrev pub ComesTo : Which → ℕ → List ℕ → List ℕ → List Part → Type 0 → SectionStop → Type 0
 ComesTo which limit used after parts at_end stop.ReadFault =
-    (place : ℕ) × IsInside which used parts place
+    (place : ℕ) × EndsInside which used parts place
 ComesTo which limit used after parts at_end (stop.Ends place) =
-    IsInside which used parts place × (after ≡ []) × at_end
+    EndsInside which used parts place × (after ≡ []) × at_end
 ComesTo which limit used after parts at_end stop.TooLong =
-    (place : ℕ) × IsInside which used parts place × (length used ≡ limit)
+    (place : ℕ) × EndsInside which used parts place × (length used ≡ limit)
 ComesTo which limit used after parts at_end (stop.Bad broken) =
     read_of which (used ++ take (limit - length used) after)
     ≡ record { items = parts; place = Broken broken }
 ComesTo which limit used after parts at_end stop.NoMemory =
-    (place : ℕ) × IsInside which used parts place
+    (place : ℕ) × EndsInside which used parts place
 ComesTo which limit used after parts at_end (stop.Keep why) =
     (more : ℕ) × (more ≤ limit - length used)
     × ((read_of which (used ++ take more after)).items ≡ parts)

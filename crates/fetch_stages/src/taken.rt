@@ -4,7 +4,7 @@ ghost use Rattle.std.specs.Option.{option_or};
 ghost use Rattle.repo_entries.specs.Batches.{AreContents};
 ghost use Rattle.repo_slice.specs.Keeps.{IsKeepCause, IsNoChange, LeavesOthers};
 ghost use Rattle.fetch_stages.specs.Puts.{Joins, StopsJoining};
-ghost use Rattle.fetch_stages.specs.Sections.{head_in, head_of, object_in, objects_among};
+ghost use Rattle.fetch_stages.specs.Sections.{head_in, head_of, object_of_part, objects_among};
 
 use crate::batcher::Batcher;
 use fetch_wire::{Part, Parts};
@@ -36,13 +36,13 @@ impl Taken {
     // Takes a part: an object joins the others, and the first other part is the head.
     fn take_part<K: Keep>(&mut self, keep: &mut K, rid: &Rid, part: Part) -> Result<(), KeepFault>
         requires stands { IsTrue ((K.constants keep.old).stands rid.now) }
-        requires size { AreContents (object_in part) }
+        requires size { AreContents (object_of_part part) }
         ensures leaves { LeavesOthers K.constants K.loan K.faults K.held rid.now keep.old keep.new }
         ensures head { OnOk result (self.new.head ≡ option_or self.old.head (head_in part)) }
         ensures joins { OnOk result (Joins K.made K.held rid.now (K.constants keep.old).caller
-            keep.old keep.new self.old.batcher (object_in part) self.new.batcher) }
+            keep.old keep.new self.old.batcher (object_of_part part) self.new.batcher) }
         ensures stops { IfErr result (StopsJoining K.made rid.now (K.constants keep.old).caller
-            (K.end keep.new) keep.old keep.new self.old.batcher (object_in part)) }
+            (K.end keep.new) keep.old keep.new self.old.batcher (object_of_part part)) }
         ensures cause { IfErr result (IsKeepCause (K.held keep.old rid.now).objects
             (K.faults keep.old) (K.faults keep.new)) }
         ensures unchanged { IfErr result IsNoChange }

@@ -1,7 +1,7 @@
 use Rattle.std.proofs.Common.{◌∙◌, ℕ, ap, refl, subst, sym}
 use Rattle.std.proofs.lemmas.Result.{err_from_is_err_and}
 use Rattle.fetch_stages.specs.Puts.{Joins, StopsJoining}
-use Rattle.fetch_stages.specs.Sections.{object_in, objects_among}
+use Rattle.fetch_stages.specs.Sections.{object_of_part, objects_among}
 use Rattle.fetch_stages.proofs.Entering.{cause_along, leaves_along, leaves_none, same_caller}
 use Rattle.fetch_stages.proofs.Joining.{all_came, more_came, none_came, stops_coming}
 use Rattle.fetch_stages.proofs.Parts.{contents_left_in, head_first, head_none, objects_first}
@@ -33,9 +33,9 @@ taking-preserved g c =
       came = more_came keep.made keep.held c.args.rid.now (keep.constants c.args.keep.now).caller
           c.args.keep.now c.taking.keep c.take_part.new.keep c.args.self.now.batcher
           (objects_among c.args.parts) (objects_among parts) c.taking.self.batcher (objects_among left)
-          c.take_part.new.self.batcher (object_in part) h.came (objects_first parts left part first)
+          c.take_part.new.self.batcher (object_of_part part) h.came (objects_first parts left part first)
           (subst (λ (n : ℕ). Joins keep.made keep.held c.args.rid.now n c.taking.keep c.take_part.new.keep
-          c.taking.self.batcher (object_in part) c.take_part.new.self.batcher)
+          c.taking.self.batcher (object_of_part part) c.take_part.new.self.batcher)
           (same_caller _ _ h.leaves.constants_stay) c.in_ok-take_part.ensures.joins);
       head = head_first c.taking.self.head c.take_part.new.self.head parts left part first
           c.in_ok-take_part.ensures.head ∙ h.head;
@@ -51,11 +51,11 @@ returns-in_err-take_part-clause-stops g c =
     (stops_coming keep.made keep.held c.args.rid.now (keep.constants c.args.keep.now).caller
     (keep.end c.take_part.new.keep) c.args.keep.now c.taking.keep c.take_part.new.keep
     c.args.self.now.batcher (objects_among c.args.parts) (objects_among c.taking.parts)
-    c.taking.self.batcher (objects_among c.pop_front.new.self) (object_in c.in-Some.part)
+    c.taking.self.batcher (objects_among c.pop_front.new.self) (object_of_part c.in-Some.part)
     c.in_err-take_part.field-0.0 h.came
     (objects_first c.taking.parts c.pop_front.new.self c.in-Some.part first)
     (subst (λ (n : ℕ). StopsJoining keep.made c.args.rid.now n (keep.end c.take_part.new.keep)
-    c.taking.keep c.take_part.new.keep c.taking.self.batcher (object_in c.in-Some.part)
+    c.taking.keep c.take_part.new.keep c.taking.self.batcher (object_of_part c.in-Some.part)
     c.in_err-take_part.field-0.0) (same_caller _ _ h.leaves.constants_stay)
     c.in_err-take_part.ensures.stops))
 
