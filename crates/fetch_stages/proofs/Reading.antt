@@ -22,7 +22,7 @@ use Rattle.fetch_wire.specs.declared.section_reader.SectionReader.{SectionReader
 use Rattle.fetch_wire.specs.declared.units.SectionUnits.{SectionUnits}
 use Rattle.fetch_stages.specs.Pieces.{Fills, Uses}
 use Rattle.fetch_stages.specs.Puts.{Joins, PutsAll, StopsPutting}
-use Rattle.fetch_stages.specs.Sections.{ComesTo, HasReadBytes, HasReadCause, EndsInside, PutsPiece, PutsSection, PutsSome, PutsUpTo, StopsSection, head_of, object_of_part, objects_among}
+use Rattle.fetch_stages.specs.Sections.{ComesTo, HasReadBytes, HasReadCause, StopsInSection, PutsPiece, PutsSection, PutsSome, PutsUpTo, StopsSection, head_of, object_of_part, objects_among}
 use Rattle.fetch_stages.specs.declared.piece.Used.{Used}
 use Rattle.fetch_stages.specs.declared.section.Section.{Section}
 use Rattle.fetch_stages.specs.declared.section_stop.SectionStop.{SectionStop}
@@ -124,7 +124,7 @@ module _ {K : Type 0} {made : K → List Item → Type 0} {held : K → Rid → 
   has_read_bytes = (which, s.used, s.parts, s.read, s.fits)
 
   -- it is inside the section
-  pub inside : is_over (unit_of reader) ≡ false → EndsInside which s.used s.parts (unit_of reader).place
+  pub inside : is_over (unit_of reader) ≡ false → StopsInSection which s.used s.parts (unit_of reader).place
   inside going = record {
     units = unit_of reader;
     held = held_of reader;

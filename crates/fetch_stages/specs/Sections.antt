@@ -55,7 +55,7 @@ head_of [] = None
 head_of (p ∷ parts) = option_or (head_in p) (head_of parts)
 
 -- these bytes give these parts and are inside the section, in or before the unit of a place
-pub record EndsInside (which : Which) (bytes : List ℕ) (parts : List Part) (place : ℕ) : Type 0 where
+pub record StopsInSection (which : Which) (bytes : List ℕ) (parts : List Part) (place : ℕ) : Type 0 where
   pub units : SectionUnits
   pub held : List ℕ
   pub goes_on : is_over units ≡ false
@@ -131,16 +131,16 @@ PutsPiece made held rid caller end old new which fed parts piece before after re
 -- others wait. At a refused call of the keep its parts are those of more bytes that wait.
 abbrev pub ComesTo : Which → ℕ → List ℕ → List ℕ → List Part → Type 0 → SectionStop → Type 0
 ComesTo which limit used after parts at_end stop.ReadFault =
-    (place : ℕ) × EndsInside which used parts place
+    (place : ℕ) × StopsInSection which used parts place
 ComesTo which limit used after parts at_end (stop.Ends place) =
-    EndsInside which used parts place × (after ≡ []) × at_end
+    StopsInSection which used parts place × (after ≡ []) × at_end
 ComesTo which limit used after parts at_end stop.TooLong =
-    (place : ℕ) × EndsInside which used parts place × (length used ≡ limit)
+    (place : ℕ) × StopsInSection which used parts place × (length used ≡ limit)
 ComesTo which limit used after parts at_end (stop.Bad broken) =
     read_of which (used ++ take (limit - length used) after)
     ≡ record { items = parts; place = Broken broken }
 ComesTo which limit used after parts at_end stop.NoMemory =
-    (place : ℕ) × EndsInside which used parts place
+    (place : ℕ) × StopsInSection which used parts place
 ComesTo which limit used after parts at_end (stop.Keep why) =
     (more : ℕ) × (more ≤ limit - length used)
     × ((read_of which (used ++ take more after)).items ≡ parts)
