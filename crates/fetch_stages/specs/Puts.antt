@@ -29,6 +29,12 @@ pub record PutsBatches {K : Type 0} (made : K → List Item → Type 0) (held : 
   pub slice : HasSlice (held old rid).state (put_told (held old rid).objects (all_in batches))
       (held new rid)
 
+-- place is made for an object, and those are put that make it
+abbrev pub PutsForPlace : {K : Type 0} → (K → List Item → Type 0) → (K → Rid → Held) → Rid → ℕ → K → K
+    → List Object → Object → List Object → Type 0
+PutsForPlace made held rid caller old new waiting object next = (puts : List (List Object))
+    × MakesPlace waiting object puts next × PutsBatches made held rid caller old new puts
+
 -- objects joined the waiting ones: some batches more of those from before and these are put, and
 -- others wait
 abbrev pub Joins : {K : Type 0} → (K → List Item → Type 0) → (K → Rid → Held) → Rid → ℕ → K → K

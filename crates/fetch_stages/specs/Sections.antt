@@ -3,12 +3,13 @@ use Rattle.std.specs.Prelude.{◌≡◌, ℕ, ◌-◌, ◌≤◌, false, List, [
 use Rattle.std.specs.Prelude.{Option, None, Some, Result, Ok, Err}
 use Rattle.std.specs.List.{flat_map}
 use Rattle.std.specs.Option.{option_or}
+use Rattle.std.specs.Io.KnownBytes.{IsAtEnd}
 use Rattle.hex.specs.Hex.{IsBytes}
 use Rattle.rad_base.specs.Faults.{Rose}
 use Rattle.rad_base.specs.declared.names.Rid.{Rid}
 use Rattle.commit_graph.specs.Objects.{Object, ObjectMap}
 use Rattle.repo_entries.specs.Items.{Item}
-use Rattle.repo_slice.specs.Keeps.{Held, IsKeepCause, IsNoChange, StopsIn}
+use Rattle.repo_slice.specs.Keeps.{Constants, Held, IsKeepCause, IsNoChange, StopsIn}
 use Rattle.unit_reader.specs.Units.{At, Broken}
 use Rattle.fetch_wire.specs.Judging.{is_over}
 use Rattle.fetch_wire.specs.SectionReaders.{HasRead, unit_of}
@@ -127,6 +128,14 @@ PutsPiece made held rid caller end old new which fed parts piece before after re
 PutsPiece made held rid caller end old new which fed parts piece before after reader
     (Err stop.TooLong) = ⊥
 
+-- what a piece comes to, whatever the reader that it is fed to has read
+abbrev pub FeedsPiece : {K : Type 0} → (K → List Item → Type 0) → (K → Rid → Held) → Rid → ℕ → ℕ
+    → K → K → List ℕ → Taken → Taken → SectionReader → SectionReader → Result Used SectionStop
+    → Type 0
+FeedsPiece made held rid caller end old new piece before after reader reader' result =
+    (which : Which) (fed : List ℕ) (parts : List Part) → HasRead which fed parts reader
+    → PutsPiece made held rid caller end old new which fed parts piece before after reader' result
+
 -- Where the bytes of a section stop that is not put: of those that were taken these are used and
 -- others wait. At a refused call of the keep its parts are those of more bytes that wait.
 abbrev pub ComesTo : Which → ℕ → List ℕ → List ℕ → List Part → Type 0 → SectionStop → Type 0
@@ -179,6 +188,14 @@ pub record StopsSection {K : Type 0} (made : K → List Item → Type 0) (held :
   pub within : length used ≤ limit
   pub comes : ComesTo which limit used after parts at_end why
   pub puts : PutsUpTo made held rid caller end old new (objects_among parts) why
+
+-- a section is not put, by a keep of these constants and these ends
+abbrev pub StopsReading : {K : Type 0} → (K → List Item → Type 0) → (K → Rid → Held)
+    → (K → Constants) → (K → ℕ) → Rid → K → K → Which → ℕ → Option (List ℕ) → Option (List ℕ)
+    → List ℕ → List ℕ → SectionStop → Type 0
+StopsReading made held constants end rid old new which limit left left' before after why =
+    StopsSection made held rid (constants old).caller (end new) old new which limit left left'
+    before after (IsAtEnd left') why
 
 -- the input failed only where its count of faults rose
 abbrev pub HasReadCause : ℕ → ℕ → SectionStop → Type 0

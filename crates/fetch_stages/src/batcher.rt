@@ -6,7 +6,7 @@ ghost use Rattle.commit_graph.specs.Objects.{Object};
 ghost use Rattle.repo_entries.specs.Batches.{IsWithin};
 ghost use Rattle.repo_entries.specs.Items.{put};
 ghost use Rattle.repo_slice.specs.Keeps.{IsKeepCause, IsNoChange, LeavesOthers, StopsIn};
-ghost use Rattle.fetch_stages.specs.Puts.{FindsPlace, Joins, MakesPlace, PutsAll, PutsBatches};
+ghost use Rattle.fetch_stages.specs.Puts.{FindsPlace, Joins, PutsAll, PutsBatches, PutsForPlace};
 ghost use Rattle.fetch_stages.specs.Puts.{StopsJoining, StopsPutting};
 
 use git_object::Kind;
@@ -98,10 +98,9 @@ impl Batcher {
     ) -> Result<(), KeepFault>
         requires stands { IsTrue ((K.constants keep.old).stands rid.now) }
         ensures leaves { LeavesOthers K.constants K.loan K.faults K.held rid.now keep.old keep.new }
-        ensures place { OnOk result ((puts : List (List Object))
-            × MakesPlace self.old (kind, content.now) puts self.new
-            × PutsBatches K.made K.held rid.now (K.constants keep.old).caller
-            keep.old keep.new puts) }
+        ensures place { OnOk result (PutsForPlace K.made K.held rid.now
+            (K.constants keep.old).caller keep.old keep.new self.old (kind, content.now)
+            self.new) }
         ensures full { IfErr result (λ _. FindsPlace self.old (kind, content.now) → ⊥) }
         ensures stops { IfErr result (StopsIn K.made rid.now (K.constants keep.old).caller
             (K.end keep.new) keep.old keep.new

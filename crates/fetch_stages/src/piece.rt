@@ -1,11 +1,8 @@
 // One piece of a section.
-ghost use Rattle.std.specs.Prelude.{ℕ, List, IfErr, IsTrue};
+ghost use Rattle.std.specs.Prelude.{IfErr, IsTrue};
 ghost use Rattle.hex.specs.Hex.{IsBytes};
 ghost use Rattle.repo_slice.specs.Keeps.{LeavesOthers};
-ghost use Rattle.fetch_wire.specs.SectionReaders.{HasRead};
-ghost use Rattle.fetch_wire.specs.declared.part.Part.{Part};
-ghost use Rattle.fetch_wire.specs.declared.part.Which.{Which};
-ghost use Rattle.fetch_stages.specs.Sections.{HasKeepCause, HasReadBytes, PutsPiece};
+ghost use Rattle.fetch_stages.specs.Sections.{FeedsPiece, HasKeepCause, HasReadBytes};
 
 use crate::section_stop::SectionStop;
 use crate::taken::Taken;
@@ -37,10 +34,8 @@ pub(crate) fn put_piece<K: Keep>(
     requires read { HasReadBytes reader.old }
     ensures leaves { LeavesOthers K.constants K.loan K.faults K.held rid.now keep.old keep.new }
     ensures bytes { IsBytes piece.now }
-    ensures puts { (which : Which) (fed : List ℕ) (parts : List Part)
-        → HasRead which fed parts reader.old
-        → PutsPiece K.made K.held rid.now (K.constants keep.old).caller (K.end keep.new) keep.old
-        keep.new which fed parts piece.now taken.old taken.new reader.new result }
+    ensures puts { FeedsPiece K.made K.held rid.now (K.constants keep.old).caller (K.end keep.new)
+        keep.old keep.new piece.now taken.old taken.new reader.old reader.new result }
     ensures cause { IfErr result (HasKeepCause (K.held keep.old rid.now).objects
         (K.faults keep.old) (K.faults keep.new)) }
 {

@@ -1,9 +1,8 @@
 // One section of a job.
 ghost use Rattle.std.specs.Prelude.{IfErr, IfOk, IsTrue};
-ghost use Rattle.std.specs.Io.KnownBytes.{IsAtEnd};
 ghost use Rattle.repo_slice.specs.Keeps.{LeavesOthers};
 ghost use Rattle.fetch_stages.specs.Sections.{HasKeepCause, HasReadCause, KeepsLoan};
-ghost use Rattle.fetch_stages.specs.Sections.{PutsSection, StopsSection};
+ghost use Rattle.fetch_stages.specs.Sections.{PutsSection, StopsReading};
 
 use crate::input::Input;
 use crate::piece::put_piece;
@@ -40,9 +39,8 @@ pub fn put_section<S: Source, K: Keep>(
     ensures puts { IfOk result (PutsSection K.made K.held rid.now (K.constants keep.old).caller
         keep.old keep.new which limit (S.left input.old.0) (S.left input.new.0) input.old.1
         input.new.1) }
-    ensures stops { IfErr result (StopsSection K.made K.held rid.now (K.constants keep.old).caller
-        (K.end keep.new) keep.old keep.new which limit (S.left input.old.0) (S.left input.new.0)
-        input.old.1 input.new.1 (IsAtEnd (S.left input.new.0))) }
+    ensures stops { IfErr result (StopsReading K.made K.held K.constants K.end rid.now keep.old
+        keep.new which limit (S.left input.old.0) (S.left input.new.0) input.old.1 input.new.1) }
     ensures cause { IfErr result (HasKeepCause (K.held keep.old rid.now).objects
         (K.faults keep.old) (K.faults keep.new)) }
     ensures failed { IfErr result (HasReadCause (S.faults input.old.0) (S.faults input.new.0)) }

@@ -2,7 +2,8 @@
 use Rattle.std.specs.Prelude.{ℕ, Bool, true, false, Some}
 use Rattle.rad_base.specs.declared.names.Rid.{Rid}
 use Rattle.repo_entries.specs.declared.entry.Entry.{Entry}
-use Rattle.repo_entries.specs.declared.entry.Entry.TheVariants.{Claim, Put, Install, Heard, Missed, Refused}
+use Rattle.repo_entries.specs.declared.entry.Entry.TheVariants.{Claim, Put, Install, Heard}
+use Rattle.repo_entries.specs.declared.entry.Entry.TheVariants.{Missed, Refused}
 use Rattle.repo_entries.specs.declared.entry.Left.{Left}
 use Rattle.repo_entries.specs.declared.entry.Left.TheVariants as lefts
 

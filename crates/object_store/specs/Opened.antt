@@ -12,7 +12,8 @@ use Rattle.object_store.specs.Opens.{IsIllegalAt, IsNoEntryAt}
 use Rattle.object_store.specs.Stores.{StandsFor}
 use Rattle.object_store.specs.declared.faults.StoreFault.{StoreFault}
 use Rattle.object_store.specs.declared.faults.Why.{Why}
-use Rattle.object_store.specs.declared.faults.Why.TheVariants.{DiskFault, Unmade, Damaged, NotLegal, NoMemory}
+use Rattle.object_store.specs.declared.faults.Why.TheVariants.{DiskFault, Unmade, Damaged}
+use Rattle.object_store.specs.declared.faults.Why.TheVariants.{NotLegal, NoMemory}
 use Rattle.object_store.specs.declared.store.Store.{Store}
 
 -- the disk that comes back, in the store or in the refusal
@@ -35,15 +36,20 @@ abbrev pub Explains : Contents → List ℕ → Why → Type 0
 Explains keyring bytes DiskFault = Unit {0}
 Explains keyring bytes Unmade = IsUnmade bytes
 Explains keyring bytes (Damaged place) =
-    IsDamagedAt place bytes ⊎ ((bodies : List (List ℕ)) × (end : ℕ) × IsJournal bodies end bytes × IsNoEntryAt place bodies)
-Explains keyring bytes (NotLegal n) = (items : List Item) × IsStoreImage bytes items × IsIllegalAt keyring n items
+    IsDamagedAt place bytes ⊎
+    ((bodies : List (List ℕ)) × (end : ℕ) × IsJournal bodies end bytes
+    × IsNoEntryAt place bodies)
+Explains keyring bytes (NotLegal n) = (items : List Item) × IsStoreImage bytes items
+    × IsIllegalAt keyring n items
 Explains keyring bytes NoMemory = Unit {0}
 
 -- What opening answers where the disk tells these bytes.
-abbrev pub IsOpenedStore : {D : Type 0} → (D → Option (List ℕ)) → (D → List ℕ → Type 0) → Contents → List ℕ
+abbrev pub IsOpenedStore : {D : Type 0} → (D → Option (List ℕ)) → (D → List ℕ → Type 0) → Contents
+    → List ℕ
     → Result (Store D) (StoreFault D) → Type 0
 IsOpenedStore reads images keyring bytes (Ok store) =
-    (items : List Item) × IsStoreImage bytes items × StandsFor store items × Holds reads images store.journal (bodies_of items) None
+    (items : List Item) × IsStoreImage bytes items × StandsFor store items
+    × Holds reads images store.journal (bodies_of items) None
 IsOpenedStore reads images keyring bytes (Err fault) = Explains keyring bytes fault.why
 
 -- a disk fault comes only where the count rose

@@ -1,5 +1,6 @@
 -- What is read of a store's journal.
-use Rattle.std.specs.Prelude.{◌≡◌, ℕ, ◌+◌, List, [], ◌∷◌, ◌++◌, length, map, Option, None, Some, Result, Ok, Err}
+use Rattle.std.specs.Prelude.{◌≡◌, ℕ, ◌+◌, List, [], ◌∷◌, ◌++◌, length, map, Option, None, Some}
+use Rattle.std.specs.Prelude.{Result, Ok, Err}
 use Rattle.std.specs.List.{AllByRecursion}
 use Rattle.std.specs.BTreeMap.{get}
 use Rattle.rad_base.specs.declared.names.Rid.{Rid}
@@ -14,7 +15,8 @@ use Rattle.legal_history.specs.Histories.{Lawful, Legal}
 use Rattle.object_store.specs.Bodies.{bodies_of}
 use Rattle.object_store.specs.Repositories.{StandsKnown}
 use Rattle.object_store.specs.declared.replayed.ReadFault.{ReadFault}
-use Rattle.object_store.specs.declared.replayed.ReadFault.TheVariants.{DiskFault, Damaged, NotLegal, NoMemory}
+use Rattle.object_store.specs.declared.replayed.ReadFault.TheVariants.{DiskFault, Damaged}
+use Rattle.object_store.specs.declared.replayed.ReadFault.TheVariants.{NotLegal, NoMemory}
 use Rattle.object_store.specs.declared.replayed.Replayed.{Replayed}
 
 -- the n-th entry, counted from 1, is the first that is not legal
@@ -60,12 +62,14 @@ pub record BeginsSo (bodies : List (List ℕ)) (place : ℕ) (items : List Item)
   pub place_is : place ≡ gate_behind (bodies_of items)
 
 -- a walk over the journal up to a place
-pub record IsWalk {D : Type 0} (reads : D → Option (List ℕ)) (images : D → List ℕ → Type 0) (journal : Journal D)
+pub record IsWalk {D : Type 0} (reads : D → Option (List ℕ)) (images : D → List ℕ → Type 0)
+    (journal : Journal D)
     (keyring : Contents) (place : ℕ) (read : Replayed) : Type 0 where
   pub items : List Item
   pub had_bodies : AllByRecursion HasBody items
   pub had : HasReplayedSo keyring read read.illegal items
-  pub begins : (bodies : List (List ℕ)) → Holds reads images journal bodies None → BeginsSo bodies place items
+  pub begins : (bodies : List (List ℕ)) → Holds reads images journal bodies None
+      → BeginsSo bodies place items
 
 -- the least body that is no entry's stands at this place
 pub record IsNoEntryAt (place : ℕ) (bodies : List (List ℕ)) : Type 0 where
@@ -77,9 +81,10 @@ pub record IsNoEntryAt (place : ℕ) (bodies : List (List ℕ)) : Type 0 where
   pub none : (item : Item) → SpellsItem item body → ⊥
   pub place_is : place ≡ gate_behind (bodies_of items)
 
--- What reading the bodies of a journal answers. Where every body is an entry's, it tells the first that is not legal, or
--- what they make; else the least that is none.
-abbrev pub IsReading : {D : Type 0} → (D → Option (List ℕ)) → (D → List ℕ → Type 0) → Journal D → Contents
+-- What reading the bodies of a journal answers. Where every body is an entry's, it tells the
+-- first that is not legal, or what they make; else the least that is none.
+abbrev pub IsReading : {D : Type 0} → (D → Option (List ℕ)) → (D → List ℕ → Type 0) → Journal D
+    → Contents
     → Result Replayed ReadFault → Type 0
 IsReading reads images journal keyring (Ok read) =
     (items : List Item) × AllByRecursion HasBody items × HasReplayed keyring read items

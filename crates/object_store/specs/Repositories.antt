@@ -6,7 +6,8 @@ use Rattle.commit_graph.specs.Objects.{Object}
 use Rattle.repo_entries.specs.Items.{Item, names_of}
 use Rattle.repo_entries.specs.declared.entry.Entry.{Entry}
 use Rattle.repo_entries.specs.declared.entry.Entry.TheVariants.{Put}
-use Rattle.repo_slice.specs.Slices.{Brings, HasNothingStaged, IsCertain, IsReady, objects_of, pending_of, state_of}
+use Rattle.repo_slice.specs.Slices.{Brings, HasNothingStaged, IsCertain, IsReady, objects_of}
+use Rattle.repo_slice.specs.Slices.{pending_of, state_of}
 use Rattle.legal_history.specs.Replays.{claimant, nothing_stands, replay, replayed_state, state_in}
 use Rattle.object_store.specs.declared.faults.ClaimFault.{ClaimFault}
 use Rattle.object_store.specs.declared.faults.ClaimFault.TheVariants.{Claimed, NoMemory}
@@ -59,7 +60,8 @@ IsPrepared entry (Some r) = IsReady r.slice entry × IsCertain r.slice entry
 abbrev pub IsAdmitted : Entry → Option Repository → Option Repository → Type 0
 IsAdmitted entry None None = Unit {0}
 IsAdmitted entry (Some old) (Some new) =
-    (objects_of new.slice ≡ pending_of old.slice) × Brings (state_of old.slice) entry (state_of new.slice)
+    (objects_of new.slice ≡ pending_of old.slice) × Brings (state_of old.slice) entry
+    (state_of new.slice)
     × HasNothingStaged new.slice × (new.claimant ≡ old.claimant)
 IsAdmitted entry None (Some new) = ⊥
 IsAdmitted entry (Some old) None = ⊥

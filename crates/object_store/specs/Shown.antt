@@ -27,5 +27,6 @@ IsBare slice = (objects_of slice ≡ nothing_stands.objects) × ((state_of slice
 -- what the entries make of the repository; none exactly where no put or install names it
 abbrev pub IsShownAs : Rid → List Item → Option (Bor Slice) → Type 0
 IsShownAs rid items None = ShowsRepository rid items → ⊥
-IsShownAs rid items (Some slice) = ShowsRepository rid items × (objects_of slice.now ≡ (replay rid items).objects)
+IsShownAs rid items (Some slice) = ShowsRepository rid items ×
+    (objects_of slice.now ≡ (replay rid items).objects)
     × (state_of slice.now ≡ replayed_state rid items)

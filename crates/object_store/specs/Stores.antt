@@ -1,5 +1,6 @@
 -- What a store stands for, and what its calls do.
-use Rattle.std.specs.Prelude.{◌≡◌, ◌⊎◌, ℕ, ◌+◌, ◌^◌, ◌<◌, ◌≤◌, length, List, [], ◌∷◌, map, Option, None, Some, Result, Ok, Err}
+use Rattle.std.specs.Prelude.{◌≡◌, ◌⊎◌, ℕ, ◌+◌, ◌^◌, ◌<◌, ◌≤◌, length, List, [], ◌∷◌, map, Option}
+use Rattle.std.specs.Prelude.{None, Some, Result, Ok, Err}
 use Rattle.std.specs.BTreeMap.{get}
 use Rattle.rad_base.specs.declared.names.Rid.{Rid}
 use Rattle.rad_base.specs.Order.{rid_cmp}
@@ -15,7 +16,8 @@ use Rattle.repo_slice.specs.declared.scope.Scope.{Scope}
 use Rattle.repo_slice.specs.declared.verdict.Judged.{Judged}
 use Rattle.entry_bodies.specs.Bodies.{body_of}
 use Rattle.ref_journal.specs.Holds.{Holds}
-use Rattle.legal_history.specs.Cores.{Core, Event, Runs, claims, doubts, enters, mends, misses, refuses}
+use Rattle.legal_history.specs.Cores.{Core, Event, Runs, claims, doubts, enters, mends, misses}
+use Rattle.legal_history.specs.Cores.{refuses}
 use Rattle.legal_history.specs.Durable.{durable_part}
 use Rattle.legal_history.specs.Histories.{Legal}
 use Rattle.legal_history.specs.Replays.{claimant, replay, replayed_state}
@@ -25,29 +27,35 @@ use Rattle.object_store.specs.declared.faults.ClaimFault.{ClaimFault}
 use Rattle.object_store.specs.declared.faults.ClaimFault.TheVariants as claimed
 use Rattle.object_store.specs.declared.store.Store.{Store}
 
--- the store stands for these entries: its history has them, each repository is what they make of it, and they are legal
+-- the store stands for these entries: its history has them, each repository is what they make of
+-- it, and they are legal
 pub record StandsFor {D : Type 0} (store : Store D) (items : List Item) : Type 0 where
   pub entries : store.history.entries.items ≡ map entry_of items
   pub each : (rid : Rid) → StandsKnown (get rid_cmp store.repositories rid) rid items
   pub legal : Legal store.keyring items
 
 -- the store's journal holds the durable part of the entries, with that doubt
-abbrev pub IsOnDisk : {D : Type 0} → (D → Option (List ℕ)) → (D → List ℕ → Type 0) → Store D → Core → Type 0
+abbrev pub IsOnDisk : {D : Type 0} → (D → Option (List ℕ)) → (D → List ℕ → Type 0) → Store D
+    → Core → Type 0
 IsOnDisk reads images store core =
-    Holds reads images store.journal (bodies_of (durable_part core.items)) (body_in_doubt core.doubt)
+    Holds reads images store.journal (bodies_of (durable_part core.items))
+    (body_in_doubt core.doubt)
 
--- a call of a store with this core was these events: it stands for what they make of it, and so does its disk, where it
--- told what the core says
-pub record Moves {D : Type 0} (reads : D → Option (List ℕ)) (images : D → List ℕ → Type 0) (old new : Store D)
+-- a call of a store with this core was these events: it stands for what they make of it, and so
+-- does its disk, where it told what the core says
+pub record Moves {D : Type 0} (reads : D → Option (List ℕ)) (images : D → List ℕ → Type 0)
+    (old new : Store D)
     (core : Core) (events : List Event) : Type 0 where
   pub next : Core
   pub runs : Runs old.keyring core events next
   pub stands : StandsFor new next.items
   pub disk : IsOnDisk reads images old core → IsOnDisk reads images new next
 
--- The events of a refused call that had this entry to write. A fault of the disk leaves it in doubt, behind a mend; or
--- leaves nothing new, with a mend before it or without one. Else nothing happens.
-abbrev pub IsRefusedCall : {D : Type 0} → (D → Option (List ℕ)) → (D → List ℕ → Type 0) → Store D → Store D → Core
+-- The events of a refused call that had this entry to write. A fault of the disk leaves it in
+-- doubt, behind a mend; or leaves nothing new, with a mend before it or without one. Else nothing
+-- happens.
+abbrev pub IsRefusedCall : {D : Type 0} → (D → Option (List ℕ)) → (D → List ℕ → Type 0) → Store D
+    → Store D → Core
     → Rid → ℕ → Item → KeepFault → Type 0
 IsRefusedCall reads images old new core rid caller item keeps.DiskFault =
     Moves reads images old new core (mends ∷ doubts (Some rid) caller item ∷ [])
@@ -55,10 +63,12 @@ IsRefusedCall reads images old new core rid caller item keeps.DiskFault =
     ⊎ Moves reads images old new core (misses (Some rid) caller ∷ [])
 IsRefusedCall reads images old new core rid caller item keeps.Full = Moves reads images old new core []
 IsRefusedCall reads images old new core rid caller item (keeps.Changed change) = ⊥
-IsRefusedCall reads images old new core rid caller item keeps.NoMemory = Moves reads images old new core []
+IsRefusedCall reads images old new core rid caller item keeps.NoMemory =
+    Moves reads images old new core []
 
 -- the events of a put: it enters behind a mend, or is refused
-abbrev pub IsPut : {D : Type 0} → (D → Option (List ℕ)) → (D → List ℕ → Type 0) → Store D → Store D → Core
+abbrev pub IsPut : {D : Type 0} → (D → Option (List ℕ)) → (D → List ℕ → Type 0) → Store D
+    → Store D → Core
     → Rid → List Object → ℕ → Result (Unit {0}) KeepFault → Type 0
 IsPut reads images old new core rid batch caller (Ok done) =
     Moves reads images old new core (mends ∷ enters (put rid batch caller) ∷ [])
@@ -66,12 +76,15 @@ IsPut reads images old new core rid batch caller (Err fault) =
     IsRefusedCall reads images old new core rid caller (put rid batch caller) fault
 
 -- the events of a claim
-abbrev pub IsClaiming : {D : Type 0} → (D → Option (List ℕ)) → (D → List ℕ → Type 0) → Store D → Store D → Core
+abbrev pub IsClaiming : {D : Type 0} → (D → Option (List ℕ)) → (D → List ℕ → Type 0) → Store D
+    → Store D → Core
     → Rid → ℕ → Result (Unit {0}) ClaimFault → Type 0
-IsClaiming reads images old new core rid caller (Ok done) = Moves reads images old new core (claims rid caller ∷ [])
+IsClaiming reads images old new core rid caller (Ok done) = Moves reads images old new core
+    (claims rid caller ∷ [])
 IsClaiming reads images old new core rid caller (Err (claimed.Claimed other)) =
     Moves reads images old new core [] × (claimant rid core.items ≡ other) × (1 ≤ other)
-IsClaiming reads images old new core rid caller (Err claimed.NoMemory) = Moves reads images old new core []
+IsClaiming reads images old new core rid caller (Err claimed.NoMemory) =
+    Moves reads images old new core []
 
 -- the caller claimed the repository
 pub record HasClaimed {D : Type 0} (store : Store D) (rid : Rid) (caller : ℕ) : Type 0 where
@@ -80,7 +93,8 @@ pub record HasClaimed {D : Type 0} (store : Store D) (rid : Rid) (caller : ℕ) 
 
 -- what was claimed stays so
 abbrev pub KeepsClaims : {D : Type 0} → Store D → Store D → Type 0
-KeepsClaims old new = (rid : Rid) (caller : ℕ) → HasClaimed old rid caller → HasClaimed new rid caller
+KeepsClaims old new = (rid : Rid) (caller : ℕ) → HasClaimed old rid caller
+    → HasClaimed new rid caller
 
 -- the store stands for some entries
 abbrev pub StandsForSome : {D : Type 0} → Store D → Type 0
@@ -99,15 +113,17 @@ IsVerdictBehind keyring items rid offer scope verdict =
 abbrev pub install_of : Rid → ℕ → Judged → Item
 install_of rid caller judged = install rid judged.next_id judged.advanced caller
 
--- What an install does. What was judged so enters behind a mend, or is refused; a whole refusal writes nothing; memory
--- may be refused before anything is judged.
-abbrev pub IsInstall : {D : Type 0} → (D → Option (List ℕ)) → (D → List ℕ → Type 0) → Store D → Store D → Core
+-- What an install does. What was judged so enters behind a mend, or is refused; a whole refusal
+-- writes nothing; memory may be refused before anything is judged.
+abbrev pub IsInstall : {D : Type 0} → (D → Option (List ℕ)) → (D → List ℕ → Type 0) → Store D
+    → Store D → Core
     → Rid → Offer → Scope → ℕ → Result (Result Judged Whole) KeepFault → Type 0
 IsInstall reads images old new core rid offer scope caller (Ok (Ok judged)) =
     IsVerdictBehind old.keyring core.items rid offer scope (Ok judged)
     × Moves reads images old new core (mends ∷ enters (install_of rid caller judged) ∷ [])
 IsInstall reads images old new core rid offer scope caller (Ok (Err why)) =
-    IsVerdictBehind old.keyring core.items rid offer scope (Err why) × Moves reads images old new core (refuses rid why caller ∷ [])
+    IsVerdictBehind old.keyring core.items rid offer scope (Err why) × Moves reads images old new core
+    (refuses rid why caller ∷ [])
 IsInstall reads images old new core rid offer scope caller (Err keeps.DiskFault) =
     (judged : Judged) × IsVerdictBehind old.keyring core.items rid offer scope (Ok judged)
     × IsRefusedCall reads images old new core rid caller (install_of rid caller judged) keeps.DiskFault
@@ -115,7 +131,8 @@ IsInstall reads images old new core rid offer scope caller (Err keeps.Full) =
     (judged : Judged) × IsVerdictBehind old.keyring core.items rid offer scope (Ok judged)
     × LacksRoomFor old.journal.end (install_of rid caller judged) × Moves reads images old new core []
 IsInstall reads images old new core rid offer scope caller (Err (keeps.Changed change)) = ⊥
-IsInstall reads images old new core rid offer scope caller (Err keeps.NoMemory) = Moves reads images old new core []
+IsInstall reads images old new core rid offer scope caller (Err keeps.NoMemory) =
+    Moves reads images old new core []
 
 -- the journal had room for what was judged
 abbrev pub JournalHadRoom : ℕ → Rid → ℕ → Result Judged Whole → Type 0

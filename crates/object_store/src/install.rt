@@ -10,7 +10,7 @@ ghost use Rattle.repo_slice.specs.Slices.{HasNothingStaged, IsCertain, IsReady, 
 ghost use Rattle.repo_slice.specs.Slices.{pending_of, pending_state, state_of};
 ghost use Rattle.repo_slice.specs.Verdicts.{IsChecked, IsInstalled, IsVerdict};
 ghost use Rattle.object_store.specs.Installs.{HasFew, HasStagedInstall, IsThere, IsVerdictAt};
-ghost use Rattle.object_store.specs.Installs.{IsWholeAdvance};
+ghost use Rattle.object_store.specs.Installs.{IsWholeAdvance, StagesInstall};
 ghost use Rattle.object_store.specs.Repositories.{IsIdle, IsPrepared, IsSame, own_rid};
 
 use crate::repository::Repository;
@@ -97,10 +97,7 @@ fn stage_install(alloc: Global, slice: &mut Slice, entry: &Entry) -> Result<(), 
     ensures there { objects_of slice.new ≡ objects_of slice.old }
     ensures state { state_of slice.new ≡ state_of slice.old }
     ensures idle { OnErr result (HasNothingStaged slice.new) }
-    ensures staged { OnOk result ((id : Oid) (remotes : List (Nid × Oid)) (caller : ℕ)
-        → entry.now ≡ Entry.Install (state_of slice.old).rid id remotes caller
-        → (pending_of slice.new ≡ objects_of slice.old)
-        × IsInstalled (state_of slice.old) id remotes (pending_state slice.new)) }
+    ensures staged { OnOk result (StagesInstall slice.old slice.new entry.now) }
     ensures ready { OnOk result (IsReady slice.new entry.now × IsCertain slice.new entry.now) }
 {
     let none = Batch::new(alloc);

@@ -37,7 +37,8 @@ fn put_entry(alloc: Global, rid: &Rid, caller: u64, batch: &Batch) -> Result<Ent
 
 // Stages a put in a slice.
 fn stage_put(alloc: Global, slice: &mut Slice, entry: &Entry, batch: &Batch) -> Result<(), NoMemory>
-    requires { (caller : ℕ) × (entry.now ≡ Entry.Put (state_of slice.old).rid (names_of batch.now) caller) }
+    requires { (caller : ℕ) ×
+        (entry.now ≡ Entry.Put (state_of slice.old).rid (names_of batch.now) caller) }
     ensures there { objects_of slice.new ≡ objects_of slice.old }
     ensures state { state_of slice.new ≡ state_of slice.old }
     ensures idle { OnErr result (HasNothingStaged slice.new) }

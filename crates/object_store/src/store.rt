@@ -1,5 +1,6 @@
 // The store that replays.
-ghost use Rattle.std.specs.Prelude.{◌≡◌, ◌≢◌, ◌↔◌, ◌⊎◌, ◌≤◌, ◌<◌, ◌+◌, ◌^◌, length, IfErr, IfOk, IfSome};
+ghost use Rattle.std.specs.Prelude.{◌≡◌, ◌≢◌, ◌↔◌, ◌⊎◌, ◌≤◌, ◌<◌, ◌+◌, ◌^◌, length, IfErr, IfOk};
+ghost use Rattle.std.specs.Prelude.{IfSome};
 ghost use Rattle.ref_journal.specs.Holds.{OnlyReads};
 ghost use Rattle.std.specs.Prelude.{List, Some, IsErrOf, IsTrue, OnErr, OnOk};
 ghost use Rattle.repo_slice.specs.Heads.{IsHeadOf};
@@ -16,7 +17,8 @@ ghost use Rattle.repo_entries.specs.Items.{Item, names_of};
 ghost use Rattle.entry_bodies.specs.Bodies.{install_text, put_text};
 ghost use Rattle.legal_history.specs.Cores.{Core};
 ghost use Rattle.object_store.specs.Installs.{HasFew, HasStagedInstall, IsVerdictAt};
-ghost use Rattle.object_store.specs.Repositories.{HasStagedPut, IsIdle, IsPrepared, IsSame, own_rid};
+ghost use Rattle.object_store.specs.Repositories.{HasStagedPut, IsIdle, IsPrepared, IsSame};
+ghost use Rattle.object_store.specs.Repositories.{own_rid};
 
 use crate::install::{judge_at, stage_install_at};
 use crate::missed::into_missed;
@@ -94,8 +96,8 @@ impl<D: Disk> Store<D> {
     ghost use Rattle.object_store.specs.Stores.{KeepsClaims, StandsForSome, StandsFor};
     ghost use Rattle.object_store.specs.Writes.{HasWritten, IsWriteFault};
 
-    /// Opens the store that stands on a disk, under a keyring. It writes nothing. A refusal gives the
-    /// disk back.
+    /// Opens the store that stands on a disk, under a keyring. It writes nothing. A refusal gives
+    /// the disk back.
     pub fn open(alloc: Global, disk: D, keyring: Keyring) -> Result<Store<D>, StoreFault<D>>
         ensures reads { OnlyReads D.loan D.faults D.reads_as D.images D.moment D.images_since
             disk (disk_of_opened result) }
@@ -155,8 +157,8 @@ impl<D: Disk> Store<D> {
         (self.journal.close(), self.history)
     }
 
-    /// The canonical head of a repository that has an identity. It changes nothing. Until contents
-    /// are read from the disk the one refusal is `NoMemory`.
+    /// The canonical head of a repository that has an identity. It changes nothing. Until
+    /// contents are read from the disk the one refusal is `NoMemory`.
     pub fn head(&mut self, alloc: Global, rid: &Rid, _caller: u64) -> Result<Head, KeepFault>
         requires { HasIdentityAt (get rid_cmp self.old.repositories rid.now) }
         ensures same { self.new ≡ self.old }
@@ -193,8 +195,9 @@ impl<D: Disk> Store<D> {
     }
 
     /// Puts objects into a repository that the caller claimed. `DiskFault`: a call of the disk
-    /// failed, and a missed entry was added, which says what was left in doubt. `Full`: the journal
-    /// would be longer than 2^40 bytes. After `Full` and `NoMemory` the history is as before.
+    /// failed, and a missed entry was added, which says what was left in doubt. `Full`: the
+    /// journal would be longer than 2^40 bytes. After `Full` and `NoMemory` the history is as
+    /// before.
     pub fn put(
         &mut self,
         alloc: Global,

@@ -1,12 +1,16 @@
 // Stores on disks in memory.
 mod journals;
 
+ghost use Rattle.std.specs.Prelude.{◌≤◌, length, IfOk};
+ghost use Rattle.repo_entries.specs.Batches.{IsBatch};
+
 use crate::*;
+use git_object::Kind;
 use journals::{JOURNALS, KEYRINGS, RECORDS};
 use keyring::Keyring;
-use rad_base::{Rid, parse_oid};
-use rad_outside::MemDisk;
-use repo_slice::Slice;
+use rad_base::{Bytes, NoMemory, Oid, Rid, parse_oid};
+use rad_outside::{Fill, MemDisk};
+use repo_slice::{Batch, Entry, History, Left, Slice};
 use std::alloc::Global;
 use std::test::Fail;
 
@@ -97,6 +101,96 @@ fn stores_open_as_told(rt: HostRuntime) -> Result<(), Fail> {
         let found = told(alloc, keyring(alloc, number)?, journal, slice)?;
         assert_eq!(rt; found.0.as_str(), open);
         assert_eq!(rt; found.1.as_str(), slice);
+    }
+    Ok(())
+}
+
+// One blob.
+fn blob(alloc: Global, content: &[u8]) -> Result<Batch, NoMemory>
+    requires { length content.now ≤ 1000 }
+    ensures { IfOk result IsBatch }
+{
+    let mut batch = Batch::new(alloc);
+    batch.push(Kind::Blob, Bytes::copy_of(alloc, content)?)?;
+    Ok(batch)
+}
+
+// The letters of a history: a claim, a put, a missed entry that left nothing or a doubt.
+fn letters(alloc: Global, history: &History) -> Result<String, Fail> {
+    let mut line = String::new(alloc);
+    for entry in history.as_slice() {
+        let letter = match entry {
+            Entry::Claim { .. } => "C",
+            Entry::Put { .. } => "P",
+            Entry::Missed {
+                left: Left::Nothing,
+                ..
+            } => "M",
+            Entry::Missed { .. } => "D",
+            _ => "?",
+        };
+        line.push_str(letter)?;
+    }
+    Ok(line)
+}
+
+// How many entries stand in an image of a disk.
+fn reopened(alloc: Global, disk: &MemDisk, fill: Fill) -> Result<u64, Fail> {
+    let image = disk.crash(alloc, disk.calls(), fill)?;
+    let disk = MemDisk::new(alloc, image, Vec::new(alloc));
+    match Store::open(alloc, disk, keyring(alloc, 0)?) {
+        Ok(store) => Ok(store.history().count()),
+        Err(_) => Ok(99),
+    }
+}
+
+// Two puts behind two claims.
+fn put_two(alloc: Global, mut store: Store<MemDisk>, rid: &Rid) -> Result<String, Fail> {
+    let first = blob(alloc, b"1\n")?;
+    let second = blob(alloc, b"2\n")?;
+    match store.claim(alloc, rid, 2) {
+        Ok(()) => {}
+        Err(_) => return Ok(String::from_str(alloc, "not claimed")?),
+    }
+    let again = store.claim(alloc, rid, 1);
+    let _first = store.put(alloc, rid, 2, &first);
+    let _second = store.put(alloc, rid, 2, &second);
+    let (disk, history) = store.close();
+    let line = letters(alloc, &history)?;
+    let old = reopened(alloc, &disk, Fill::Old)?;
+    let new = reopened(alloc, &disk, Fill::New)?;
+    let claimed = again == Err(ClaimFault::Claimed(2));
+    Ok(format!(in alloc; "{line} {old} {new} {claimed}")?)
+}
+
+// What two puts leave where this call of the disk fails.
+fn failing(alloc: Global, call: u64) -> Result<String, Fail> {
+    let mut fails = Vec::new(alloc);
+    fails.push(call)?;
+    let disk = MemDisk::new(alloc, journal_of(alloc, b"a", b"00")?, fails);
+    match Store::open(alloc, disk, keyring(alloc, 0)?) {
+        Ok(store) => put_two(alloc, store, &Rid(Oid([7; 20]))),
+        Err(fault) => why_told(alloc, fault.why),
+    }
+}
+
+#[test]
+fn each_call_of_two_puts_fails_in_turn(rt: HostRuntime) -> Result<(), Fail> {
+    let alloc = rt.alloc();
+    for (call, left) in [
+        (0, "disk fault"),
+        (3, "disk fault"),
+        (4, "CMP 1 1 true"),
+        (5, "CMP 1 1 true"),
+        (6, "CDP 1 1 true"),
+        (7, "CDP 1 1 true"),
+        (8, "CPM 1 1 true"),
+        (9, "CPM 1 1 true"),
+        (10, "CPD 1 1 true"),
+        (11, "CPD 1 2 true"),
+        (12, "CPP 2 2 true"),
+    ] {
+        assert_eq!(rt; failing(alloc, call)?.as_str(), left, "{call}");
     }
     Ok(())
 }

@@ -23,6 +23,8 @@ use Rattle.repo_slice.specs.declared.keep_fault.KeepFault.TheVariants as fault
 use Rattle.repo_slice.specs.declared.scope.Scope.{Scope}
 use Rattle.repo_slice.specs.declared.state.State.{State}
 use Rattle.repo_slice.specs.declared.verdict.Judged.{Judged}
+use Rattle.repo_slice.specs.declared.wanting.Stage.{Stage}
+use Rattle.repo_slice.specs.Wanted.{IsWantedList}
 use Rattle.repo_slice.specs.Verdicts.{IsNextState, IsVerdict}
 
 -- what a keep has of a repository: a state, and its objects where they are told
@@ -132,6 +134,11 @@ pub record HasSlice (state : State) (objects : Option ObjectMap) (held : Held) :
 abbrev pub IsVerdictOn : Constants → Held → Offer → Scope → Result Judged Whole → Type 0
 IsVerdictOn constants held offer scope verdict =
     ForSome held.objects (λ objects. IsVerdict objects constants.keyring held.state offer scope verdict)
+
+-- where the objects are told, these nodes of an offer are asked for
+abbrev pub IsWantedOn : Constants → Held → Offer → Scope → Stage → List Nid → Type 0
+IsWantedOn constants held offer scope stage nodes =
+    ForSome held.objects (λ objects. IsWantedList objects constants.keyring held.state offer scope stage nodes)
 
 -- the entry that a verdict makes
 abbrev pub item_of : Rid → ℕ → Result Judged Whole → Item

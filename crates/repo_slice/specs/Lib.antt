@@ -1,3 +1,4 @@
+pub mod Conclusions
 pub mod Good
 pub mod Heads
 pub mod Keeps

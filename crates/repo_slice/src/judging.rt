@@ -12,6 +12,7 @@ ghost use Rattle.repo_slice.specs.Good.{IsGood};
 ghost use Rattle.repo_slice.specs.Outcomes.{AreOutcomes, advanced_in, count_after, if_advanced};
 ghost use Rattle.repo_slice.specs.Parts.{case_in};
 ghost use Rattle.repo_slice.specs.Rounds.{AreEarly, AreProgress};
+ghost use Rattle.repo_slice.specs.Conclusions.{Concludes};
 ghost use Rattle.repo_slice.specs.Standing.{delegates_in};
 ghost use Rattle.repo_slice.specs.Verdicts.{IsChecked, IsVerdict};
 
@@ -75,10 +76,8 @@ fn conclude(
     requires few { length terms.now.state.now.remotes ≤ 1024 }
     requires long { length found.now ≡ length remotes.now }
     requires early { AreEarly found.now }
-    ensures told { (m : ObjectMap) (roots : List Root) → AreClosures m roots answers.now
-        → AreProgress m (case_in terms.now) Stage.Tips roots remotes.now found.now
-        → IfOk result (λ remarks. AreOutcomes m (case_in terms.now)
-        (length terms.now.state.now.remotes) remotes.now remarks.outcomes) }
+    ensures told { Concludes (case_in terms.now) (length terms.now.state.now.remotes)
+        remotes.now found.now answers.now result }
     ensures advanced { IfOk result
         (λ remarks. remarks.advanced ≡ advanced_in remotes.now remarks.outcomes) }
 {

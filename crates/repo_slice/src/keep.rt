@@ -8,9 +8,10 @@ ghost use Rattle.repo_entries.specs.Batches.{IsBatch};
 ghost use Rattle.repo_entries.specs.Items.{Item, put};
 ghost use Rattle.repo_slice.specs.Heads.{IsHeadOf};
 ghost use Rattle.repo_slice.specs.Keeps.{AreRisingNames, Constants, HadRoom, HasSlice, Held, HeldBehind};
-ghost use Rattle.repo_slice.specs.Keeps.{IsKeepCause, IsNamedIn, IsNoChange, IsVerdictOn, LeavesOthers};
-ghost use Rattle.repo_slice.specs.Keeps.{Makes, StopsAtVerdict, StopsIn, item_of, put_told};
-ghost use Rattle.repo_slice.specs.Wanted.{AreAmong, IsWantedList};
+ghost use Rattle.repo_slice.specs.Keeps.{IsKeepCause, IsNamedIn, IsNoChange, IsVerdictOn, IsWantedOn};
+ghost use Rattle.repo_slice.specs.Keeps.{LeavesOthers, Makes, StopsAtVerdict, StopsIn, item_of};
+ghost use Rattle.repo_slice.specs.Keeps.{put_told};
+ghost use Rattle.repo_slice.specs.Wanted.{AreAmong};
 
 use crate::{Batch, Judged, KeepFault, Scope, Stage, Whole};
 use canonical_head::answer::Head;
@@ -65,9 +66,8 @@ pub trait Keep {
         ensures slice { held self.new rid.now ≡ held self.old rid.now }
         ensures cause { IfErr result (IsKeepCause (held self.old rid.now).objects
             (faults self.old) (faults self.new)) }
-        ensures wanted { IfOk result (λ nodes. ForSome (held self.old rid.now).objects (λ objects.
-            IsWantedList objects (constants self.old).keyring (held self.old rid.now).state
-            offer.now scope.now stage nodes)) }
+        ensures wanted { IfOk result (IsWantedOn (constants self.old) (held self.old rid.now)
+            offer.now scope.now stage) }
         ensures among { IfOk result (AreAmong offer.now.remotes) };
 
     /// Puts objects into the slice of a repository.
