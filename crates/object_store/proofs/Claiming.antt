@@ -1,5 +1,5 @@
 -- What a claim makes of a store.
-use Rattle.std.proofs.Common.{◌≡◌, ◌⊎◌, ℕ, ◌≤◌, Bool, true, false, if◌then◌else◌, List, [], ◌∷◌, ◌++◌, Option, None, Some, Err, inl, inr, refl, sym, ap, subst, ◌∙◌, arith}
+use Rattle.std.proofs.Common.{◌≡◌, ℕ, ◌≤◌, Bool, true, false, if◌then◌else◌, List, [], ◌∷◌, ◌++◌, Option, None, Some, Err, inl, inr, refl, sym, ap, subst, ◌∙◌, arith}
 use Rattle.std.specs.BTreeMap.{BTreeMap, get}
 use Rattle.std.specs.List.{AllByRecursion}
 use Rattle.rad_base.specs.Order.{rid_cmp}
@@ -8,24 +8,22 @@ use Rattle.keyring.specs.Contents.{Contents}
 use Rattle.ref_journal.specs.Holds.{Holds}
 use Rattle.ref_journal.specs.declared.journal.Journal.{Journal}
 use Rattle.repo_entries.specs.Items.{Item, claim, install, missed, put, refused}
-use Rattle.repo_entries.specs.declared.entry.Entry.{Entry}
 use Rattle.repo_entries.specs.declared.entry.Entry.TheVariants.{Claim}
 use Rattle.repo_slice.specs.Slices.{HasNothingStaged, objects_of, state_of}
-use Rattle.repo_slice.specs.declared.slice.Slice.{Slice}
 use Rattle.legal_history.specs.Cores.{Core, claims}
 use Rattle.legal_history.specs.Durable.{durable_part}
-use Rattle.legal_history.specs.Histories.{Lawful, Legal, LegalFrom}
-use Rattle.legal_history.specs.Replays.{Standing, claimant, is_same, replay, state_in}
+use Rattle.legal_history.specs.Histories.{Lawful, LegalFrom}
+use Rattle.legal_history.specs.Replays.{Standing, claimant, is_same, state_in}
 use Rattle.legal_history.proofs.Durables.{durable_claimed}
 use Rattle.object_store.specs.Bodies.{bodies_of, body_in_doubt}
-use Rattle.object_store.specs.Repositories.{IsCauseOf, IsClaimed, StandsAs, StandsKnown, claimant_at}
+use Rattle.object_store.specs.Repositories.{IsCauseOf, IsClaimed, StandsKnown, claimant_at}
 use Rattle.object_store.specs.Stores.{IsClaiming, Moves, StandsFor}
 use Rattle.object_store.specs.declared.faults.ClaimFault.{ClaimFault}
 use Rattle.object_store.specs.declared.faults.ClaimFault.TheVariants as faults
 use Rattle.object_store.specs.declared.repository.Repository.{Repository}
 use Rattle.object_store.specs.declared.store.Store.{Store}
 use Rattle.object_store.proofs.Keys.{is_itself, replay_claim, same_or_other}
-use Rattle.object_store.proofs.Moving.{nothing_done, stands_more}
+use Rattle.object_store.proofs.Moving.{stands_more}
 use Rattle.object_store.proofs.Standing.{claimant_told, each_grown}
 
 -- a claim has a caller

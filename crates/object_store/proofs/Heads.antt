@@ -1,9 +1,6 @@
 -- The head of a repository of a store.
-use Rattle.std.proofs.Common.{◌≡◌, List, Option, None, Some, sym, ap, subst, ◌∙◌}
+use Rattle.std.proofs.Common.{◌≡◌, List, Option, None, Some, subst}
 use Rattle.std.specs.Prelude.{IsSome}
-use Rattle.std.specs.BTreeMap.{get}
-use Rattle.rad_base.specs.Order.{rid_cmp}
-use Rattle.rad_base.specs.declared.names.Oid.{Oid}
 use Rattle.rad_base.specs.declared.names.Rid.{Rid}
 use Rattle.canonical_head.specs.declared.answer.Head.{Head}
 use Rattle.commit_graph.specs.Objects.{ObjectMap}

@@ -1,5 +1,5 @@
 -- What an install makes of the repositories of a store.
-use Rattle.std.proofs.Common.{◌≡◌, ◌⊎◌, ℕ, ◌≤◌, List, [], ◌∷◌, ◌++◌, length, Option, None, Some, inl, inr, refl, sym, ap, subst, ◌∙◌, arith}
+use Rattle.std.proofs.Common.{◌≡◌, ℕ, ◌≤◌, List, [], ◌∷◌, ◌++◌, length, Option, None, Some, inl, inr, refl, sym, ap, subst, ◌∙◌, arith}
 use Rattle.std.specs.BTreeMap.{BTreeMap, get}
 use Rattle.rad_base.specs.Order.{IsRising, rid_cmp}
 use Rattle.rad_base.specs.declared.names.Nid.{Nid}
@@ -9,14 +9,14 @@ use Rattle.commit_graph.specs.Objects.{ObjectMap}
 use Rattle.keyring.specs.Contents.{Contents}
 use Rattle.repo_entries.specs.Items.{Item, install}
 use Rattle.repo_entries.specs.declared.entry.Entry.TheVariants.{Install}
-use Rattle.repo_slice.specs.Good.{IsGood, Stands}
-use Rattle.repo_slice.specs.Slices.{objects_of, pending_of, state_of}
+use Rattle.repo_slice.specs.Good.{IsGood}
+use Rattle.repo_slice.specs.Slices.{objects_of, state_of}
 use Rattle.repo_slice.specs.Standing.{replaced}
 use Rattle.repo_slice.proofs.Replacing.{one_replaced}
 use Rattle.repo_slice.specs.Verdicts.{IsInstalled}
 use Rattle.repo_slice.specs.declared.state.State.{State}
 use Rattle.legal_history.specs.Histories.{Legal}
-use Rattle.legal_history.specs.Replays.{Standing, is_same, replay, replayed_state, state_in}
+use Rattle.legal_history.specs.Replays.{Standing, replay, replayed_state, state_in}
 use Rattle.legal_history.proofs.GoodStandings.{legal_is_good}
 use Rattle.object_store.specs.Installs.{HasFew, HasStagedInstall, IsThere}
 use Rattle.object_store.specs.Repositories.{IsAdmitted, IsSame, StandsAs, StandsKnown}

@@ -1,5 +1,5 @@
 -- What an install makes of a store.
-use Rattle.std.proofs.Common.{◌≡◌, ℕ, ◌+◌, ◌^◌, ◌<◌, ◌≤◌, List, [], ◌∷◌, ◌++◌, length, map, Option, None, Some, Result, Ok, Err, refl, sym, ap, subst, ◌∙◌, arith}
+use Rattle.std.proofs.Common.{◌≡◌, ℕ, ◌+◌, ◌^◌, ◌<◌, ◌≤◌, List, [], ◌∷◌, ◌++◌, length, map, Option, Some, Result, Ok, Err, refl, sym, ap, subst, ◌∙◌, arith}
 use Rattle.std.specs.Prelude.{Contains}
 use Rattle.std.specs.Option.{option_or}
 use Rattle.std.specs.BTreeMap.{BTreeMap, get}
@@ -16,7 +16,7 @@ use Rattle.commit_graph.proofs.Repeats.{length_within}
 use Rattle.keyring.specs.Contents.{Contents}
 use Rattle.ref_journal.specs.Holds.{Holds}
 use Rattle.ref_journal.specs.declared.journal.Journal.{Journal}
-use Rattle.repo_entries.specs.Items.{Item, install, refused}
+use Rattle.repo_entries.specs.Items.{Item, refused}
 use Rattle.repo_entries.specs.declared.entry.Entry.{Entry}
 use Rattle.repo_entries.specs.declared.entry.Entry.TheVariants.{Install, Refused}
 use Rattle.repo_entries.specs.declared.whole.Whole.{Whole}
@@ -32,16 +32,16 @@ use Rattle.repo_slice.proofs.NextStates.{next_good}
 use Rattle.repo_slice.proofs.OfferedAgain.{allowed_again}
 use Rattle.repo_slice.proofs.Replacing.{replaced_replaces}
 use Rattle.entry_bodies.specs.Bodies.{install_text}
-use Rattle.legal_history.specs.Cores.{Core, enters, mends, refuses}
+use Rattle.legal_history.specs.Cores.{Core}
 use Rattle.legal_history.specs.Durable.{durable_part}
-use Rattle.legal_history.specs.Histories.{Lawful, Legal}
-use Rattle.legal_history.specs.Replays.{claimant, replay, replayed_state}
+use Rattle.legal_history.specs.Histories.{Lawful}
+use Rattle.legal_history.specs.Replays.{replay, replayed_state}
 use Rattle.legal_history.proofs.Durables.{durable_refused}
 use Rattle.legal_history.proofs.GoodStandings.{legal_is_good}
 use Rattle.object_store.specs.Bodies.{bodies_of, body_in_doubt}
 use Rattle.object_store.specs.Installs.{HasFew, HasStagedInstall, IsVerdictAt}
 use Rattle.object_store.specs.Repositories.{IsAdmitted, IsSame, StandsKnown, own_rid}
-use Rattle.object_store.specs.Stores.{HasClaimed, IsInstall, IsVerdictBehind, LacksRoomFor, Moves, StandsForSome, StandsFor, install_of}
+use Rattle.object_store.specs.Stores.{HasClaimed, IsInstall, IsVerdictBehind, Moves, StandsForSome, StandsFor, install_of}
 use Rattle.object_store.specs.Writes.{HasWritten, IsWriteFault}
 use Rattle.object_store.specs.declared.repository.Repository.{Repository}
 use Rattle.object_store.specs.declared.store.Store.{Store}

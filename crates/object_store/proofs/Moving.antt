@@ -1,6 +1,5 @@
 -- The events of a call that has an entry to write.
-use Rattle.std.proofs.Common.{◌≡◌, ◌⊎◌, ℕ, ◌≤◌, Bool, true, false, List, [], ◌∷◌, ◌++◌, map, Option, None, Some, inl, inr, refl, sym, ap, subst, ◌∙◌}
-use Rattle.std.specs.Option.{is_some}
+use Rattle.std.proofs.Common.{◌≡◌, ◌⊎◌, ℕ, Bool, true, false, List, [], ◌∷◌, ◌++◌, map, Option, None, Some, inl, inr, refl, sym, ap, subst, ◌∙◌}
 use Rattle.std.specs.BTreeMap.{get}
 use Rattle.std.proofs.lemmas.List.{append-nil, map-append}
 use Rattle.rad_base.specs.Order.{rid_cmp}
@@ -24,7 +23,7 @@ use Rattle.legal_history.proofs.Durables.{durable-append, durable_more, legal_mo
 use Rattle.object_store.specs.Bodies.{bodies_of, body_in_doubt}
 use Rattle.object_store.specs.Entries.{left_by, missed_entry}
 use Rattle.object_store.specs.Repositories.{StandsKnown}
-use Rattle.object_store.specs.Stores.{HasClaimed, IsOnDisk, IsRefusedCall, Moves, StandsFor}
+use Rattle.object_store.specs.Stores.{HasClaimed, IsRefusedCall, Moves, StandsFor}
 use Rattle.object_store.specs.declared.store.Store.{Store}
 use Rattle.object_store.proofs.Standing.{claimant_told, each_missed}
 

@@ -1,5 +1,5 @@
 -- What opening a store finds.
-use Rattle.std.proofs.Common.{◌≡◌, ◌⊎◌, ℕ, List, Option, None, Some, Ok, Err, inl, inr, refl, sym, subst}
+use Rattle.std.proofs.Common.{ℕ, List, Option, None, Some, Ok, Err, inr, refl, subst}
 use Rattle.std.specs.Prelude.{IfSome}
 use Rattle.keyring.specs.Contents.{Contents}
 use Rattle.ref_journal.specs.Holds.{Holds}

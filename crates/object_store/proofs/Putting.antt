@@ -1,12 +1,12 @@
 -- What a put makes of a store.
-use Rattle.std.proofs.Common.{◌≡◌, ℕ, List, [], ◌∷◌, ◌++◌, Option, None, Some, Result, Ok, Err, refl, sym, ap, subst, ◌∙◌}
+use Rattle.std.proofs.Common.{◌≡◌, ℕ, List, [], ◌∷◌, ◌++◌, Option, Result, Ok, Err, ap, subst, ◌∙◌}
 use Rattle.std.specs.Prelude.{IfErr, OnOk}
 use Rattle.std.specs.BTreeMap.{get}
 use Rattle.rad_base.specs.Order.{rid_cmp}
 use Rattle.rad_base.specs.declared.names.Rid.{Rid}
 use Rattle.commit_graph.specs.Objects.{Object}
 use Rattle.repo_entries.specs.Batches.{IsBatch}
-use Rattle.repo_entries.specs.Items.{Item, names_of, put}
+use Rattle.repo_entries.specs.Items.{names_of, put}
 use Rattle.repo_entries.specs.declared.entry.Entry.{Entry}
 use Rattle.repo_entries.specs.declared.entry.Entry.TheVariants.{Put}
 use Rattle.repo_slice.specs.declared.keep_fault.KeepFault.{KeepFault}

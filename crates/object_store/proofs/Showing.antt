@@ -1,9 +1,7 @@
 -- Which repositories a store shows.
-use Rattle.std.proofs.Common.{◌≡◌, ◌⊎◌, ℕ, ◌≤◌, Bool, true, false, if◌then◌else◌, cond, List, [], ◌∷◌, ◌++◌, length, Option, None, Some, inl, inr, refl, sym, ap, subst, ◌∙◌, arith}
+use Rattle.std.proofs.Common.{◌≡◌, ◌⊎◌, ◌≤◌, Bool, true, false, if◌then◌else◌, cond, List, [], ◌∷◌, ◌++◌, length, Option, None, Some, inl, inr, refl, sym, ap, subst, ◌∙◌, arith}
 use Rattle.std.specs.List.{AllByRecursion}
 use Rattle.std.specs.Option.{option_or}
-use Rattle.std.specs.BTreeMap.{is_at}
-use Rattle.rad_base.specs.Order.{oid_cmp}
 use Rattle.rad_base.specs.declared.names.Oid.{Oid}
 use Rattle.rad_base.specs.declared.names.Rid.{Rid}
 use Rattle.rad_base.proofs.NameOrder.{equals_itself}
@@ -16,7 +14,7 @@ use Rattle.repo_slice.specs.Slices.{objects_of, state_of}
 use Rattle.repo_slice.specs.Standing.{replaced}
 use Rattle.repo_slice.specs.declared.state.State.{State}
 use Rattle.legal_history.specs.Histories.{Legal, LegalFrom}
-use Rattle.legal_history.specs.Replays.{Standing, after_item, after_items, after_put, is_same, nothing_stands, replay, replayed_state, with_objects}
+use Rattle.legal_history.specs.Replays.{Standing, after_item, after_items, after_put, is_same, nothing_stands, replay, replayed_state}
 use Rattle.legal_history.proofs.GoodStandings.{put_grows, same_is}
 use Rattle.object_store.specs.Repositories.{StandsAs, StandsKnown}
 use Rattle.object_store.specs.Shown.{Concerns, IsBare, ShowsRepository}

@@ -1,23 +1,20 @@
 -- What calls make of the repositories of a store.
-use Rattle.std.proofs.Common.{◌≡◌, ◌⊎◌, ℕ, Bool, true, false, List, [], ◌∷◌, ◌++◌, Option, None, Some, inl, inr, refl, sym, ap, subst, ◌∙◌}
+use Rattle.std.proofs.Common.{◌≡◌, ℕ, false, List, [], ◌∷◌, ◌++◌, Option, None, Some, inl, inr, refl, sym, ap, subst, ◌∙◌}
 use Rattle.std.specs.BTreeMap.{BTreeMap, get}
 use Rattle.std.specs.Option.{option_or}
 use Rattle.rad_base.specs.Order.{rid_cmp}
-use Rattle.rad_base.specs.declared.names.Oid.{Oid}
 use Rattle.rad_base.specs.declared.names.Rid.{Rid}
 use Rattle.commit_graph.specs.InMemory.{objects_in}
 use Rattle.commit_graph.specs.Objects.{Object, ObjectMap}
 use Rattle.commit_graph.proofs.Named.{objects_behind}
 use Rattle.repo_entries.specs.Items.{Item, missed, names_of, put}
-use Rattle.repo_entries.specs.declared.entry.Entry.{Entry}
 use Rattle.repo_entries.specs.declared.entry.Entry.TheVariants.{Put}
 use Rattle.repo_entries.specs.declared.entry.Left.{Left}
-use Rattle.repo_slice.specs.Slices.{Brings, HasNothingStaged, objects_of, pending_of, state_of}
 use Rattle.repo_slice.specs.declared.state.State.{State}
-use Rattle.legal_history.specs.Replays.{Standing, after_put, claimant, nothing_stands, replay, is_same, state_in, with_objects}
-use Rattle.object_store.specs.Repositories.{HasStagedPut, IsAdmitted, IsIdle, IsSame, StandsAs, StandsKnown, claimant_at, own_rid}
+use Rattle.legal_history.specs.Replays.{Standing, claimant, replay, is_same, state_in, with_objects}
+use Rattle.object_store.specs.Repositories.{HasStagedPut, IsAdmitted, IsIdle, IsSame, StandsKnown, claimant_at, own_rid}
 use Rattle.object_store.specs.declared.repository.Repository.{Repository}
-use Rattle.object_store.proofs.Keys.{claimant_stays, replay_missed, replay_put, replay_put_other, same_or_other}
+use Rattle.object_store.proofs.Keys.{claimant_stays, replay_missed, replay_put, same_or_other}
 
 -- a repository stands for a history that makes the same of it
 pub stands_so : (r : Option Repository) (rid : Rid) (old new : List Item) → replay rid new ≡ replay rid old → claimant rid new ≡ claimant rid old → StandsKnown r rid old → StandsKnown r rid new

@@ -1,10 +1,10 @@
 -- One entry more that was read.
-use Rattle.std.proofs.Common.{◌≡◌, ◌⊎◌, ℕ, ◌+◌, ◌≤◌, List, [], ◌∷◌, ◌++◌, length, map, Option, None, Some, Bool, true, false, Result, Ok, Err, inl, inr, refl, sym, ap, subst, ◌∙◌, arith, append_assoc}
+use Rattle.std.proofs.Common.{◌≡◌, ℕ, ◌+◌, List, [], ◌∷◌, ◌++◌, length, map, Option, None, Some, true, Result, Ok, Err, refl, sym, ap, subst, ◌∙◌, arith, append_assoc}
 use Rattle.std.specs.Option.{is_some}
 use Rattle.std.specs.BTreeMap.{BTreeMap, get}
 use Rattle.std.specs.List.{AllByRecursion}
 use Rattle.std.proofs.lemmas.List.{length-map, map-append}
-use Rattle.rad_base.specs.Order.{IsRising, rid_cmp}
+use Rattle.rad_base.specs.Order.{rid_cmp}
 use Rattle.rad_base.specs.declared.names.Nid.{Nid}
 use Rattle.rad_base.specs.declared.names.Oid.{Oid}
 use Rattle.rad_base.specs.declared.names.Rid.{Rid}
@@ -22,11 +22,11 @@ use Rattle.repo_slice.specs.declared.scope.Scope.{Scope}
 use Rattle.repo_slice.specs.declared.scope.Scope.TheVariants.{All}
 use Rattle.repo_slice.specs.declared.state.State.{State}
 use Rattle.repo_slice.specs.declared.verdict.Judged.{Judged}
-use Rattle.repo_slice.specs.Slices.{objects_of, state_of}
+use Rattle.repo_slice.specs.Slices.{objects_of}
 use Rattle.repo_slice.proofs.OneVerdict.{judged_or_refused, one_judged}
 use Rattle.entry_bodies.specs.Bodies.{HasBody}
 use Rattle.legal_history.specs.Histories.{Lawful, Legal, MayInstall}
-use Rattle.legal_history.specs.Replays.{claimant, is_same, replay, replayed_state}
+use Rattle.legal_history.specs.Replays.{claimant, replay, replayed_state}
 use Rattle.legal_history.proofs.Durables.{legal_more}
 use Rattle.legal_history.proofs.GoodStandings.{legal_is_good}
 use Rattle.object_store.specs.Installs.{HasFew, HasStagedInstall, IsThere, IsVerdictAt, IsWholeAdvance}
@@ -34,7 +34,7 @@ use Rattle.object_store.specs.Opens.{HasReplayedSo, HasReplayed, IsIllegalAt, Is
 use Rattle.object_store.specs.Repositories.{HasStagedPut, IsAdmitted, IsSame, StandsKnown, own_rid}
 use Rattle.object_store.specs.declared.replayed.Replayed.{Replayed}
 use Rattle.object_store.specs.declared.repository.Repository.{Repository}
-use Rattle.object_store.proofs.Installing.{each_known, known_there, stands_few, stands_good, stands_install, stands_known}
+use Rattle.object_store.proofs.Installing.{known_there, stands_few, stands_good, stands_install, stands_known}
 use Rattle.object_store.proofs.Keys.{claimant_stays, replay_install_other, replay_put_other}
 use Rattle.object_store.proofs.Standing.{each_grown, named, stands_put}
 

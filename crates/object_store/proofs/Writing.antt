@@ -1,6 +1,5 @@
 -- What an entry that was prepared and written makes of a store.
-use Rattle.std.proofs.Common.{◌≡◌, ℕ, ◌≤◌, Bool, List, [], ◌∷◌, ◌++◌, Option, None, Some, Result, Ok, Err, refl, sym, ap, subst, ◌∙◌, arith}
-use Rattle.std.specs.Prelude.{IfErr, OnOk}
+use Rattle.std.proofs.Common.{◌≡◌, ℕ, List, [], ◌∷◌, ◌++◌, Option, None, sym, ap, subst, ◌∙◌, arith}
 use Rattle.std.specs.BTreeMap.{get}
 use Rattle.rad_base.specs.Order.{rid_cmp}
 use Rattle.rad_base.specs.declared.names.Rid.{Rid}
@@ -16,10 +15,9 @@ use Rattle.legal_history.specs.Cores.{Core, enters, mends}
 use Rattle.legal_history.specs.Durable.{IsDurable}
 use Rattle.legal_history.specs.Histories.{Lawful}
 use Rattle.object_store.specs.Entries.{missed_entry}
-use Rattle.object_store.specs.Repositories.{IsAdmitted, IsIdle, IsSame, StandsKnown, claimant_at}
+use Rattle.object_store.specs.Repositories.{IsIdle, IsSame, StandsKnown, claimant_at}
 use Rattle.object_store.specs.Stores.{HasClaimed, IsRefusedCall, Moves, StandsFor}
-use Rattle.object_store.specs.Writes.{HasLetGo, HasMissed, HasStayed, HasWritten, IsWriteFault}
-use Rattle.object_store.specs.declared.repository.Repository.{Repository}
+use Rattle.object_store.specs.Writes.{HasLetGo, HasWritten, IsWriteFault}
 use Rattle.object_store.specs.declared.store.Store.{Store}
 use Rattle.object_store.proofs.Moving.{entered, fault_left, nothing_done}
 use Rattle.object_store.proofs.Standing.{each_same, same_along, stands_idle}

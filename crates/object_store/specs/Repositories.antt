@@ -1,11 +1,10 @@
 -- The repositories of a store.
-use Rattle.std.specs.Prelude.{◌≡◌, ℕ, ◌≤◌, ◌++◌, List, [], Option, None, Some}
+use Rattle.std.specs.Prelude.{◌≡◌, ℕ, ◌≤◌, ◌++◌, List, Option, None, Some}
 use Rattle.rad_base.specs.declared.names.Rid.{Rid}
 use Rattle.commit_graph.specs.InMemory.{objects_in}
 use Rattle.commit_graph.specs.Objects.{Object}
-use Rattle.repo_entries.specs.Items.{Item, names_of}
+use Rattle.repo_entries.specs.Items.{Item}
 use Rattle.repo_entries.specs.declared.entry.Entry.{Entry}
-use Rattle.repo_entries.specs.declared.entry.Entry.TheVariants.{Put}
 use Rattle.repo_slice.specs.Slices.{Brings, HasNothingStaged, IsCertain, IsReady, objects_of}
 use Rattle.repo_slice.specs.Slices.{pending_of, state_of}
 use Rattle.legal_history.specs.Replays.{claimant, nothing_stands, replay, replayed_state, state_in}

@@ -1,5 +1,5 @@
 -- Which repositories a store shows.
-use Rattle.std.specs.Prelude.{◌≡◌, ◌⊎◌, ℕ, List, [], ◌∷◌, Option, None, Some}
+use Rattle.std.specs.Prelude.{◌≡◌, ◌⊎◌, List, [], ◌∷◌, Option, None, Some}
 use Rattle.std.specs.Borrow.{Bor}
 use Rattle.rad_base.specs.declared.names.Rid.{Rid}
 use Rattle.repo_entries.specs.Items.{Item, claim, put, install, missed, refused}

@@ -1,4 +1,4 @@
-use Rattle.std.proofs.Common.{◌∙◌, ◌++◌, ◌∷◌, [], None, rules}
+use Rattle.std.proofs.Common.{◌∙◌, ◌++◌, ◌∷◌, [], None}
 use Rattle.rad_base.proofs.EachItem.{each_more}
 use Rattle.entry_bodies.specs.Bodies.{HasBody, item_in}
 use Rattle.ref_journal.proofs.Walks.{only_reads_on}

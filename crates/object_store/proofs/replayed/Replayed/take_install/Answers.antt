@@ -1,4 +1,4 @@
-use Rattle.std.proofs.Common.{◌∙◌, ◌≡◌, ◌++◌, ◌∷◌, [], List, Option, ap, length, refl, rules, subst, sym}
+use Rattle.std.proofs.Common.{◌∙◌, ◌++◌, ◌∷◌, [], List, Option, ap, length, rules, subst, sym}
 use Rattle.std.specs.BTreeMap.{get}
 use Rattle.rad_base.specs.Order.{rid_cmp}
 use Rattle.repo_entries.specs.Items.{install}

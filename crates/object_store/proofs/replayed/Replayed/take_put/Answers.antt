@@ -1,4 +1,4 @@
-use Rattle.std.proofs.Common.{◌∙◌, ◌≡◌, ◌++◌, ◌∷◌, [], List, ap, length, refl, rules}
+use Rattle.std.proofs.Common.{◌∙◌, ◌++◌, ◌∷◌, [], List, ap, rules}
 use Rattle.repo_entries.specs.Batches.{IsBatch}
 use Rattle.repo_entries.specs.Items.{put}
 use Rattle.repo_entries.specs.declared.entry.Entry.{Entry}

@@ -1,4 +1,4 @@
-use Rattle.std.proofs.Common.{Err, Ok, ap, refl, subst, sym}
+use Rattle.std.proofs.Common.{Err, ap, refl, subst, sym}
 use Rattle.std.proofs.lemmas.Result.{err_from_is_err_and}
 use Rattle.repo_entries.specs.declared.history.History.{History}
 use Rattle.object_store.specs.Repositories.{IsIdle}
