@@ -1,6 +1,6 @@
 -- What a keep of one slice has behind a put and an install.
-use Rattle.std.proofs.Common.{◌≡◌, ℕ, ◌≤◌, Bool, true, false, cond, List, [], ◌∷◌, ◌++◌, Option, None, Some, refl, sym, ap, subst, ◌∙◌}
-use Rattle.std.specs.Prelude.{IsTrue, Result, Ok, Err}
+use Rattle.std.proofs.Common.{◌≡◌, ℕ, ◌≤◌, Bool, true, false, cond, List, [], ◌∷◌, ◌++◌, Option, Some, refl, sym, ap, subst, ◌∙◌}
+use Rattle.std.specs.Prelude.{IsTrue}
 use Rattle.std.specs.Option.{option_or}
 use Rattle.std.specs.BTreeMap.{is_at}
 use Rattle.std.specs.Ordering.{is_eq}
@@ -14,7 +14,7 @@ use Rattle.commit_graph.specs.InMemory.{objects_in}
 use Rattle.commit_graph.specs.Objects.{Grows, Object, ObjectMap}
 use Rattle.keyring.specs.Contents.{Contents}
 use Rattle.repo_slice.specs.Good.{IsGood}
-use Rattle.repo_slice.specs.Keeps.{Constants, LeavesOthers, ToldAlike, put_behind, put_told}
+use Rattle.repo_slice.specs.Keeps.{LeavesOthers, ToldAlike, put_told}
 use Rattle.repo_slice.specs.Slices.{objects_of, state_of}
 use Rattle.repo_slice.specs.Verdicts.{IsJudged, IsNextState}
 use Rattle.repo_slice.specs.declared.scope.Scope.{Scope}

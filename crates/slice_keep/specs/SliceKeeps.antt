@@ -1,7 +1,6 @@
 -- What a keep of one slice has and has made.
-use Rattle.std.specs.Prelude.{◌≡◌, ℕ, Bool, List, map, Some}
+use Rattle.std.specs.Prelude.{ℕ, List, map, Some}
 use Rattle.std.specs.Ordering.{is_eq}
-use Rattle.rad_base.specs.declared.names.Rid.{Rid}
 use Rattle.rad_base.specs.Order.{rid_cmp}
 use Rattle.keyring.specs.Contents.{Contents}
 use Rattle.repo_entries.specs.Items.{Item, install, missed, put, refused}
@@ -12,7 +11,6 @@ use Rattle.repo_slice.specs.Slices.{objects_of, state_of}
 use Rattle.repo_slice.specs.declared.slice.Slice.{Slice}
 use Rattle.slice_keep.specs.declared.made.Made.{Made}
 use Rattle.slice_keep.specs.declared.made.Made.TheVariants as made
-use Rattle.slice_keep.specs.declared.made.Noted.{Noted}
 
 -- what a keep of one slice is seen as
 pub record Kept : Type 0 where

@@ -1,4 +1,4 @@
-use Rattle.std.proofs.Common.{◌≡◌, List, subst, sym, ◌∙◌}
+use Rattle.std.proofs.Common.{subst, sym, ◌∙◌}
 use Rattle.repo_slice.specs.Keeps.{AreRisingNames}
 use Rattle.slice_keep.proofs.Told.{names_are, sorted_rise}
 use Rattle.slice_keep.proofs.names.names_of.Goals as goal

@@ -1,4 +1,4 @@
-use Rattle.std.proofs.Common.{◌≡◌, refl, [], ◌∷◌, sym, subst, ◌∙◌, ap, inl, arith, Some}
+use Rattle.std.proofs.Common.{refl, [], sym, subst, ◌∙◌, ap, inl, arith}
 use Rattle.std.proofs.lemmas.Result.{err_from_is_err_and}
 use Rattle.rad_base.proofs.Options.{some_is}
 use Rattle.commit_graph.specs.Objects.{ObjectMap}
@@ -6,7 +6,7 @@ use Rattle.repo_slice.specs.declared.slice.Slice.{Slice}
 use Rattle.repo_slice.specs.declared.state.State.{State}
 use Rattle.repo_slice.specs.Slices.{objects_of, state_of}
 use Rattle.repo_slice.specs.Verdicts.{IsJudged, IsNextState, IsRefusedWhole}
-use Rattle.slice_keep.specs.SliceKeeps.{Kept, keep_constants, held_of}
+use Rattle.slice_keep.specs.SliceKeeps.{Kept}
 use Rattle.slice_keep.proofs.Keeping.{constants_same, install_good, leaves_others}
 use Rattle.slice_keep.proofs.Stops.{stops_for_memory}
 use Rattle.slice_keep.proofs.slice_keep.SliceKeepKeep.install.Goals as goal

@@ -1,8 +1,8 @@
-use Rattle.std.proofs.Common.{◌≡◌, refl, [], ◌∷◌, sym, subst, ◌∙◌, ap, rules, arith, Some}
+use Rattle.std.proofs.Common.{refl, subst, ◌∙◌, ap, arith, Some}
 use Rattle.std.proofs.lemmas.Result.{err_from_is_err_and}
-use Rattle.repo_slice.specs.Keeps.{HasSlice, LeavesOthers, ToldAlike, put_told}
+use Rattle.repo_slice.specs.Keeps.{ToldAlike, put_told}
 use Rattle.repo_slice.specs.Slices.{objects_of, state_of}
-use Rattle.slice_keep.specs.SliceKeeps.{Kept, keep_constants, held_of}
+use Rattle.slice_keep.specs.SliceKeeps.{Kept}
 use Rattle.slice_keep.proofs.Keeping.{constants_same, leaves_others, put_alike, put_good}
 use Rattle.slice_keep.proofs.Stops.{stops_for_memory, stops_missed}
 use Rattle.slice_keep.proofs.slice_keep.SliceKeepKeep.put.Goals as goal
