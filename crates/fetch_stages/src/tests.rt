@@ -103,61 +103,62 @@ struct Row<'a> {
     counts: &'a [usize],
 }
 
-fn rows() -> [Row<'static>; 8] {
-    let whole = Row {
+// A section that is put.
+fn whole() -> Row<'static> {
+    Row {
         bytes: TIPS,
         limit: 19,
         fails: &[],
         calls: 9,
         wanted: Ok(19),
         counts: &[2],
-    };
+    }
+}
+
+// The same section, ending so, with no put.
+fn ending(wanted: Result<u64, SectionStop>) -> Row<'static> {
+    Row {
+        wanted,
+        counts: &[],
+        ..whole()
+    }
+}
+
+fn rows() -> [Row<'static>; 8] {
     let cut = Row {
         bytes: b"DO\x03\0\0\0\x02abO\x04\0",
-        wanted: Err(SectionStop::Ends(9)),
-        counts: &[],
-        ..whole
+        ..ending(Err(SectionStop::Ends(9)))
     };
     let long = Row {
         limit: 18,
-        wanted: Err(SectionStop::TooLong),
-        counts: &[],
-        ..whole
+        ..ending(Err(SectionStop::TooLong))
+    };
+    let shown = Break {
+        place: 9,
+        shown: 15,
     };
     let broken = Row {
         bytes: b"DO\x03\0\0\0\x02abO\x05\0\0\0\0end\n",
-        wanted: Err(SectionStop::Bad(Break {
-            place: 9,
-            shown: 15,
-        })),
-        counts: &[],
-        ..whole
+        ..ending(Err(SectionStop::Bad(shown)))
     };
     let unread = Row {
         fails: &[1],
-        wanted: Err(SectionStop::ReadFault),
-        counts: &[],
-        ..whole
+        ..ending(Err(SectionStop::ReadFault))
     };
     let refused = Row {
         calls: 0,
-        wanted: Err(SectionStop::Keep(KeepFault::DiskFault)),
         counts: &[0],
-        ..whole
+        ..ending(Err(SectionStop::Keep(KeepFault::DiskFault)))
     };
     let declined = Row {
         bytes: b"R\x02",
-        wanted: Ok(2),
-        counts: &[],
-        ..whole
+        ..ending(Ok(2))
     };
     let empty = Row {
         bytes: b"",
-        wanted: Err(SectionStop::Ends(0)),
-        counts: &[],
-        ..whole
+        ..ending(Err(SectionStop::Ends(0)))
     };
-    [whole, cut, long, broken, unread, refused, declined, empty]
+    [whole(), cut, long, broken, unread, refused, declined, empty]
 }
 
 // An input of these bytes, in pieces of 7.
