@@ -1,4 +1,5 @@
 pub mod Batches
+pub mod JobEnds
 pub mod Pieces
 pub mod Puts
 pub mod Sections

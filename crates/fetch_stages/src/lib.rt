@@ -3,6 +3,7 @@
 
 mod batcher;
 mod input;
+mod job_end;
 mod laws;
 mod piece;
 mod section;
@@ -13,6 +14,7 @@ mod tests;
 
 pub use batcher::Batcher;
 pub use input::{Input, piece_buffer};
+pub use job_end::{ImportEnd, JobEnd};
 pub use laws::{fronts_are_put_first, one_cut};
 pub use section::{Section, put_section};
 pub use section_stop::SectionStop;
