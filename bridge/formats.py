@@ -382,12 +382,13 @@ def identity_at(objects: Objects, oid: bytes) -> Identity:
     return Identity(oid, commit.parents, document, signatures)
 
 
-def identity_chain(objects: Objects, tip: bytes) -> list[Identity]:
-    """The identity's commits, from the tip to the root."""
-    chain = [identity_at(objects, tip)]
-    while chain[-1].parents:
-        chain.append(identity_at(objects, chain[-1].parents[0]))
-    return chain
+def identity_chain(objects: Objects, tip: bytes) -> Iterator[Identity]:
+    """The identity's commits, from the tip towards the root, as far as they are there."""
+    following = [tip]
+    while following and following[0] in objects:
+        identity = identity_at(objects, following[0])
+        yield identity
+        following = identity.parents
 
 
 def document_at(objects: Objects, identity: bytes) -> dict:

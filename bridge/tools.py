@@ -43,6 +43,8 @@ def words_parser(description: str | None, example: str) -> argparse.ArgumentPars
 def run_main(main: Callable[[], int]) -> NoReturn:
     """Runs a program's main, and tells a refusal in one line."""
     name = os.path.basename(sys.argv[0])
+    # A path may have any bytes.
+    sys.stdout.reconfigure(errors="surrogateescape")
     try:
         status = main()
         sys.stdout.flush()
@@ -50,7 +52,8 @@ def run_main(main: Callable[[], int]) -> NoReturn:
         print(f"{name}: {error}", file=sys.stderr)
         status = 1
     except OSError as error:
-        print(f"{name}: {error.filename}: {error.strerror}", file=sys.stderr)
+        where = f"{error.filename}: " if error.filename else ""
+        print(f"{name}: {where}{error.strerror}", file=sys.stderr)
         status = 1
     except KeyboardInterrupt:
         status = 130
