@@ -63,8 +63,7 @@ fn remotes_are_found(rt: HostRuntime) -> Result<(), Fail> {
 }
 
 #[test]
-fn fronts_are_read(rt: HostRuntime) {
-    let digits = [b'0'; 130];
+fn words_and_lines_in_front_are_read(rt: HostRuntime) {
     let line = b"key value\nrest";
     assert_eq!(rt; after(line, b"key "), Some(b"value\nrest".as_slice()));
     assert_eq!(rt; after(line, b"keys"), None);
@@ -77,7 +76,11 @@ fn fronts_are_read(rt: HostRuntime) {
         Some((b"key value".as_slice(), b"rest".as_slice()))
     );
     assert_eq!(rt; line_front(b"rest"), None);
+}
 
+#[test]
+fn names_in_front_are_read(rt: HostRuntime) {
+    let digits = [b'0'; 130];
     assert_eq!(rt;
         oid_front(&digits[..21]),
         Some((Oid([b'0'; 20]), b"0".as_slice()))

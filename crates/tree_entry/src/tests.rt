@@ -64,6 +64,15 @@ fn entries_are_found_by_name_and_kind(rt: HostRuntime) -> Result<(), Fail> {
     for (tree, kind, name, found) in cases {
         assert_eq!(rt; find_entry(&mut objects, &tree, kind, name), Ok(found));
     }
+    Ok(())
+}
+
+#[test]
+fn entries_of_commits_are_found(rt: HostRuntime) -> Result<(), Fail> {
+    let alloc = rt.alloc();
+    let mut objects = MemObjects::new(alloc);
+    let file = objects.put(alloc, Kind::Blob, b"file")?;
+    let all = tree(alloc, &mut objects, &[(b"100755 name\0", file)])?;
     let first = commit(alloc, &mut objects, &all, &[])?;
     assert_eq!(rt;
         commit_entry(&mut objects, &first, Kind::Blob, b"name"),
