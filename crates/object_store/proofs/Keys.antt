@@ -1,6 +1,8 @@
 -- The names of repositories, and what one entry more makes of each.
 use Rattle.std.proofs.Common.{◌≡◌, ◌⊎◌, ℕ, Bool, true, false, if◌then◌else◌, List, [], ◌∷◌, ◌++◌, inl, inr, refl, sym, ap, ◌∙◌}
 use Rattle.std.specs.Prelude.{Option}
+use Rattle.std.specs.Cmp.{IsTotalOrder}
+use Rattle.std.proofs.lemmas.Cmp.{nat_list_cmp_total, on_total}
 use Rattle.std.proofs.lemmas.Map.Lookups.{CmpEqualImpliesEq}
 use Rattle.rad_base.specs.Order.{rid_cmp}
 use Rattle.rad_base.specs.declared.names.Nid.{Nid}
@@ -12,6 +14,10 @@ use Rattle.repo_entries.specs.Items.{Item, claim, install, missed, put, refused}
 use Rattle.repo_entries.specs.declared.entry.Left.{Left}
 use Rattle.repo_entries.specs.declared.whole.Whole.{Whole}
 use Rattle.legal_history.specs.Replays.{Standing, after_install, after_item, after_items, after_put, claimant, is_same, nothing_stands, replay}
+
+-- the order of names is total
+pub rid_total : IsTotalOrder rid_cmp
+rid_total = on_total (λ r. r.0.0) nat_list_cmp_total
 
 -- names that compare as equal are one
 pub rid_exact : CmpEqualImpliesEq rid_cmp

@@ -4,6 +4,7 @@ pub mod Heads
 pub mod Installing
 pub mod Judging
 pub mod Keys
+pub mod Listing
 pub mod Moving
 pub mod Opening
 pub mod Putting
@@ -12,4 +13,5 @@ pub mod Remotes
 pub mod Showing
 pub mod Standing
 pub mod Taking
+pub mod Wanting
 pub mod Writing

@@ -1,5 +1,6 @@
 pub mod Bodies
 pub mod Entries
+pub mod Held
 pub mod Installs
 pub mod Opened
 pub mod Opens

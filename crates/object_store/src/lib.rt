@@ -6,9 +6,11 @@ mod install;
 mod missed;
 mod replayed;
 mod repository;
+mod shown;
 mod store;
 #[cfg(test)]
 mod tests;
+mod wanted;
 
 pub use faults::{ClaimFault, StoreFault, Why};
 pub use repo_slice::KeepFault;

@@ -2,14 +2,16 @@
 ghost use Rattle.std.specs.Prelude.{◌≡◌, ◌≢◌, ◌↔◌, ◌⊎◌, ◌≤◌, ◌<◌, ◌+◌, ◌^◌, length, IfErr, IfOk};
 ghost use Rattle.std.specs.Prelude.{IfSome};
 ghost use Rattle.ref_journal.specs.Holds.{OnlyReads};
-ghost use Rattle.std.specs.Prelude.{List, Some, IsErrOf, IsTrue, OnErr, OnOk};
+ghost use Rattle.std.specs.Prelude.{Contains, List, Some, IsErrOf, IsTrue, OnErr, OnOk};
 ghost use Rattle.repo_slice.specs.Heads.{IsHeadOf};
+ghost use Rattle.repo_slice.specs.Keeps.{AreRisingNames, IsNamedIn};
+ghost use Rattle.repo_slice.specs.Wanted.{AreAmong, IsWantedList};
 ghost use Rattle.legal_history.specs.Replays.{replay, replayed_state};
-ghost use Rattle.object_store.specs.Shown.{IsBare};
 ghost use Rattle.object_store.specs.Installs.{HasIdentityAt};
 ghost use Rattle.std.specs.BTreeMap.{get};
 ghost use Rattle.rad_base.specs.Faults.{Rose};
 ghost use Rattle.rad_base.specs.Order.{IsRising, rid_cmp};
+ghost use Rattle.rad_base.specs.declared.names.Oid.{Oid};
 ghost use Rattle.rad_base.specs.declared.names.Rid.{Rid};
 ghost use Rattle.repo_entries.specs.Batches.{IsBatch};
 ghost use Rattle.repo_entries.specs.Histories.{HasRoom};
@@ -24,14 +26,16 @@ use crate::install::{judge_at, stage_install_at};
 use crate::missed::into_missed;
 use crate::replayed::{ReadFault, read_all};
 use crate::repository::{Repository, admit_at, claim_at, stage_put_at, unstage_at};
+use crate::shown::{is_bare, shown_names};
+use crate::wanted::{names_at, wants_at};
 use crate::{ClaimFault, StoreFault, Why};
 use canonical_head::answer::Head;
 use entry_bodies::{install_body, put_body};
 use keyring::Keyring;
-use rad_base::{NoMemory, Offer, Remotes, Rid};
+use rad_base::{Nids, NoMemory, Offer, Oids, Remotes, Rid, Rids};
 use rad_outside::Disk;
 use ref_journal::{AppendFault, Journal, OpenFault, Parcel};
-use repo_slice::{Batch, Entry, History, Judged, KeepFault, Scope, Slice, Whole};
+use repo_slice::{Batch, Entry, History, Judged, KeepFault, Scope, Slice, Stage, Whole};
 use std::alloc::Global;
 use std::collections::BTreeMap;
 
@@ -82,15 +86,9 @@ fn fault<D>(disk: D, why: Why) -> StoreFault<D>
     StoreFault { disk, why }
 }
 
-// Whether a slice has no object and no identity.
-fn is_bare(slice: &Slice) -> bool
-    ensures { IsTrue result ↔ IsBare slice.now }
-{
-    slice.count() == 0 && slice.id().is_none()
-}
-
 impl<D: Disk> Store<D> {
-    ghost use Rattle.object_store.specs.Shown.{IsShownAs};
+    ghost use Rattle.object_store.specs.Held.{held_in};
+    ghost use Rattle.object_store.specs.Shown.{AreRisingRids, IsShownAs, ShowsRepository};
     ghost use Rattle.object_store.specs.Opened.{HasStoreOpenCause, IsOpenedStore, OpensAs, disk_of_opened};
     ghost use Rattle.object_store.specs.Stores.{JournalHadRoom, HasClaimed, IsClaiming, IsInstall, IsPut};
     ghost use Rattle.object_store.specs.Stores.{KeepsClaims, StandsForSome, StandsFor};
@@ -155,6 +153,55 @@ impl<D: Disk> Store<D> {
         ensures history { result.1 ≡ self.history }
     {
         (self.journal.close(), self.history)
+    }
+
+    /// The names of the repositories that a put or an install names, rising, each once.
+    pub fn repositories(&self, alloc: Global) -> Result<Rids, NoMemory>
+        ensures rising { IfOk result AreRisingRids }
+        ensures names { (items : List Item) → StandsFor self.now items → IfOk result
+            (λ rids. (rid : Rid) → Contains rids rid ↔ ShowsRepository rid items) }
+    {
+        shown_names(alloc, &self.repositories)
+    }
+
+    /// The names of the identity and of the remotes' commits of a repository, rising, each once.
+    /// There is none where no put or install names it.
+    pub fn have(&self, alloc: Global, rid: &Rid) -> Result<Oids, NoMemory>
+        ensures rising { IfOk result AreRisingNames }
+        ensures names { (items : List Item) → StandsFor self.now items → IfOk result
+            (λ oids. (oid : Oid) → Contains oids oid ↔ IsNamedIn (held_in rid.now items) oid) }
+    {
+        names_at(alloc, &self.repositories, rid)
+    }
+
+    /// Which of the offered remotes are asked for at a stage, on what stands of a repository:
+    /// nothing where no put or install names it. Their keys rise. It changes nothing. Until
+    /// contents are read from the disk the one refusal is `NoMemory`.
+    pub fn wants(
+        &mut self,
+        alloc: Global,
+        rid: &Rid,
+        _caller: u64,
+        offer: &Offer,
+        scope: &Scope,
+        stage: Stage,
+    ) -> Result<Nids, KeepFault>
+        ensures journal { self.new.journal ≡ self.old.journal }
+        ensures keyring { self.new.keyring ≡ self.old.keyring }
+        ensures claims { KeepsClaims self.old self.new }
+        ensures stands { (items : List Item) → StandsFor self.old items
+            → StandsFor self.new items }
+        ensures fault { IfErr result (λ why. why ≡ KeepFault.NoMemory) }
+        ensures wanted { (items : List Item) → StandsFor self.old items → IfOk result
+            (IsWantedList (replay rid.now items).objects self.old.keyring
+            (replayed_state rid.now items) offer.now scope.now stage) }
+        ensures among { IfOk result (AreAmong offer.now.remotes) }
+    {
+        let all = &mut self.repositories;
+        match wants_at(alloc, all, rid, offer, &self.keyring, scope, stage) {
+            Ok(nodes) => Ok(nodes),
+            Err(NoMemory) => Err(KeepFault::NoMemory),
+        }
     }
 
     /// The canonical head of a repository that has an identity. It changes nothing. Until

@@ -8,9 +8,9 @@ use crate::*;
 use git_object::Kind;
 use journals::{JOURNALS, KEYRINGS, RECORDS};
 use keyring::Keyring;
-use rad_base::{Bytes, NoMemory, Oid, Rid, parse_oid};
+use rad_base::{Bytes, NoMemory, Offer, Oid, Remotes, Rid, parse_oid};
 use rad_outside::{Fill, MemDisk};
-use repo_slice::{Batch, Entry, History, Left, Slice};
+use repo_slice::{Batch, Entry, History, Left, Scope, Slice, Stage};
 use std::alloc::Global;
 use std::test::Fail;
 
@@ -192,5 +192,39 @@ fn each_call_of_two_puts_fails_in_turn(rt: HostRuntime) -> Result<(), Fail> {
     ] {
         assert_eq!(rt; failing(alloc, call)?.as_str(), left, "{call}");
     }
+    Ok(())
+}
+
+// How many repositories a store shows, names one has and remotes it asks for, before a put and
+// behind it.
+fn listed(alloc: Global, mut store: Store<MemDisk>, rid: &Rid) -> Result<String, Fail> {
+    let batch = blob(alloc, b"1\n")?;
+    let offer = Offer {
+        id: Oid([3; 20]),
+        remotes: Remotes::new(alloc),
+    };
+    match store.claim(alloc, rid, 1) {
+        Ok(()) => {}
+        Err(_) => return Ok(String::from_str(alloc, "not claimed")?),
+    }
+    let before = store.repositories(alloc)?.as_slice().len();
+    let _put = store.put(alloc, rid, 1, &batch);
+    let rids = store.repositories(alloc)?;
+    let have = store.have(alloc, rid)?.as_slice().len();
+    let asked = store.wants(alloc, rid, 1, &offer, &Scope::All, Stage::Sigs);
+    let wants = asked.is_ok_and(|nodes| nodes.as_slice().is_empty());
+    let own = rids.as_slice() == [*rid].as_slice();
+    Ok(format!(in alloc; "{before} {own} {have} {wants}")?)
+}
+
+#[test]
+fn a_store_lists_what_was_put(rt: HostRuntime) -> Result<(), Fail> {
+    let alloc = rt.alloc();
+    let disk = MemDisk::new(alloc, journal_of(alloc, b"a", b"00")?, Vec::new(alloc));
+    let line = match Store::open(alloc, disk, keyring(alloc, 0)?) {
+        Ok(store) => listed(alloc, store, &Rid(Oid([7; 20])))?,
+        Err(fault) => why_told(alloc, fault.why)?,
+    };
+    assert_eq!(rt; line.as_str(), "0 true 0 true");
     Ok(())
 }

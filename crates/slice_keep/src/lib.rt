@@ -3,7 +3,6 @@
 #![tactic(auto)]
 
 mod made;
-mod names;
 mod slice_keep;
 mod slices;
 #[cfg(test)]

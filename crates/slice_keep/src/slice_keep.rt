@@ -5,13 +5,13 @@ ghost use Rattle.repo_slice.specs.Slices.{state_of};
 ghost use Rattle.slice_keep.specs.SliceKeeps.{held_of, noted_items};
 
 use crate::made::{Made, Noted};
-use crate::names::names_of;
 use crate::slices::{copy_of, install_into, put_into};
 use canonical_head::answer::Head;
 use keyring::Keyring;
 use rad_base::{Nids, NoMemory, Offer, Oids, Rid};
 use repo_entries::{Batch, Whole};
 use repo_slice::{Judged, Keep, KeepFault, Scope, Slice, Stage, judge, wants};
+use slice_names::names_of;
 use std::alloc::Global;
 use std::marker::Model;
 

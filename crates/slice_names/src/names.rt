@@ -5,7 +5,7 @@ ghost use Rattle.rad_base.specs.declared.names.Nid.{Nid};
 ghost use Rattle.rad_base.specs.declared.names.Oid.{Oid};
 ghost use Rattle.rad_base.specs.Order.{oid_cmp};
 ghost use Rattle.repo_slice.specs.Keeps.{AreRisingNames};
-ghost use Rattle.slice_keep.specs.Names.{AreTold};
+ghost use Rattle.slice_names.specs.Names.{AreTold};
 
 use rad_base::{Nid, NoMemory, Oid, Oids};
 use std::alloc::{AllocError, Global};
@@ -49,11 +49,7 @@ fn set_of(alloc: Global, id: Option<Oid>) -> Result<BTreeSet<Oid>, AllocError>
 }
 
 /// The names of an identity and of the commits of remotes, rising, each once.
-pub(crate) fn names_of(
-    alloc: Global,
-    id: Option<Oid>,
-    remotes: &[(Nid, Oid)],
-) -> Result<Oids, NoMemory>
+pub fn names_of(alloc: Global, id: Option<Oid>, remotes: &[(Nid, Oid)]) -> Result<Oids, NoMemory>
     ensures rising { IfOk result AreRisingNames }
     ensures names { IfOk result (λ oids. (oid : Oid) → Contains oids oid
         ↔ ((id ≡ Some oid) ⊎ ((node : Nid) × Contains remotes.now (node, oid)))) }

@@ -2,9 +2,9 @@ use Rattle.std.proofs.Common.{◌≡◌, List, take, subst, arith}
 use Rattle.std.proofs.lemmas.List.{take_all}
 use Rattle.rad_base.specs.declared.names.Nid.{Nid}
 use Rattle.rad_base.specs.declared.names.Oid.{Oid}
-use Rattle.slice_keep.specs.Names.{AreTold}
-use Rattle.slice_keep.proofs.Told.{told_more, told_none}
-use Rattle.slice_keep.proofs.names.add_commits.Goals as goal
+use Rattle.slice_names.specs.Names.{AreTold}
+use Rattle.slice_names.proofs.Told.{told_more, told_none}
+use Rattle.slice_names.proofs.names.add_commits.Goals as goal
 
 pub loop-remote-init : goal.loop-remote-init
 loop-remote-init c = told_none c.args.names.now

@@ -15,7 +15,7 @@ use Rattle.rad_base.proofs.NameOrder.{oid_exact, oid_total, equals_itself}
 use Rattle.rad_base.proofs.Options.{some_is}
 use Rattle.rad_base.proofs.Members.{contains_nothing}
 use Rattle.repo_slice.specs.Keeps.{AreRisingNames}
-use Rattle.slice_keep.specs.Names.{AreTold}
+use Rattle.slice_names.specs.Names.{AreTold}
 
 -- nothing was told
 pub told_none : (old : BTreeSet Oid) → AreTold old old []

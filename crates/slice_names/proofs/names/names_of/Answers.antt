@@ -1,7 +1,7 @@
 use Rattle.std.proofs.Common.{subst, sym, ◌∙◌}
 use Rattle.repo_slice.specs.Keeps.{AreRisingNames}
-use Rattle.slice_keep.proofs.Told.{names_are, sorted_rise}
-use Rattle.slice_keep.proofs.names.names_of.Goals as goal
+use Rattle.slice_names.proofs.Told.{names_are, sorted_rise}
+use Rattle.slice_names.proofs.names.names_of.Goals as goal
 
 pub returns-clause-rising : goal.returns-clause-rising
 returns-clause-rising c =
