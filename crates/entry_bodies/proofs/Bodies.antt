@@ -12,7 +12,7 @@ use Rattle.commit_graph.specs.Objects.{Object}
 use Rattle.rad_base.specs.RemoteTexts.{AreRemotes, IsPair, pair_text}
 use Rattle.repo_entries.specs.Batches.{AreContents, IsBatch, content_size}
 use Rattle.repo_entries.specs.Items.{Item, claim, put, install, missed, refused}
-use Rattle.entry_bodies.specs.Bodies.{FitsInstall, FitsPut, SpellsItem, held_text, install_text, put_text}
+use Rattle.entry_bodies.specs.Bodies.{FitsInstall, FitsPut, SpellsItem, held_text, install_size, install_text, put_size, put_text}
 use Rattle.entry_bodies.specs.Lists.{SpellObjects}
 use Rattle.entry_bodies.specs.Readers.{SaysNone}
 use Rattle.entry_bodies.proofs.Contents.{IsHeld, one_object}
@@ -142,6 +142,24 @@ few_bytes objects batch = ⊎_elim (λ one. alone objects one batch.each) (λ wi
         let none : content_size [] ≡ 0 = refl in
         omega (arith, sum, none, each.0)
     alone (x ∷ y ∷ xs) n each = absurd (omega (arith, n))
+
+-- a put has its size
+pub put_sized : (rid : Rid) (objects : List Object) → length rid.0.0 ≡ 20 → length (put_text rid objects) ≡ put_size objects
+put_sized rid objects twenty =
+    omega (arith, twenty, held_size objects, length-append rid.0.0 (to_be_bytes w32 (length objects) ++ flat_map held_text objects))
+
+-- so has an install
+pub install_sized : (rid : Rid) (id : Oid) (remotes : List (Nid × Oid)) → length rid.0.0 ≡ 20 → length id.0 ≡ 20 → length (flat_map pair_text remotes) ≡ 52 * length remotes
+    → length (install_text rid id remotes) ≡ install_size remotes
+install_sized rid id remotes twenty more size =
+    omega (
+      arith,
+      twenty,
+      more,
+      size,
+      length-append rid.0.0 (id.0 ++ (to_be_bytes w16 (length remotes) ++ flat_map pair_text remotes)),
+      length-append id.0 (to_be_bytes w16 (length remotes) ++ flat_map pair_text remotes),
+    )
 
 -- a put fits a record of a journal
 pub put_fits : (rid : Rid) (objects : List Object) → length rid.0.0 ≡ 20 → IsBatch objects → length (put_text rid objects) ≤ 34000000

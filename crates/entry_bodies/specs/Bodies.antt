@@ -1,5 +1,5 @@
 -- The bodies of entries that a journal keeps: the objects of a put, or what an install names.
-use Rattle.std.specs.Prelude.{◌≡◌, ℕ, ◌≤◌, List, [], ◌∷◌, ◌++◌, length}
+use Rattle.std.specs.Prelude.{◌≡◌, ℕ, ◌+◌, ◌*◌, ◌≤◌, List, [], ◌∷◌, ◌++◌, length}
 use Rattle.std.specs.List.{AllByRecursion, flat_map}
 use Rattle.std.specs.Int.{to_be_bytes, w16, w32}
 use Rattle.rad_base.specs.declared.names.Nid.{Nid}
@@ -10,7 +10,7 @@ use Rattle.rad_base.specs.Sizes.{IsOid}
 use Rattle.commit_graph.specs.Objects.{Object}
 use Rattle.fetch_wire.specs.Sections.{kind_byte}
 use Rattle.rad_base.specs.RemoteTexts.{IsPair, pair_text}
-use Rattle.repo_entries.specs.Batches.{AreContents}
+use Rattle.repo_entries.specs.Batches.{AreContents, content_size}
 use Rattle.repo_entries.specs.Items.{Item, claim, put, install, missed, refused}
 use Rattle.entry_bodies.specs.declared.body.Body.{Body}
 use Rattle.entry_bodies.specs.declared.body.Body.TheVariants as bodies
@@ -27,6 +27,13 @@ put_text rid objects = 1 ∷ (rid.0.0 ++ (to_be_bytes w32 (length objects) ++ fl
 abbrev pub install_text : Rid → Oid → List (Nid × Oid) → List ℕ
 install_text rid id remotes =
     2 ∷ (rid.0.0 ++ (id.0 ++ (to_be_bytes w16 (length remotes) ++ flat_map pair_text remotes)))
+
+-- how many bytes they have
+abbrev pub put_size : List Object → ℕ
+put_size objects = 25 + (5 * length objects + content_size objects)
+
+abbrev pub install_size : List (Nid × Oid) → ℕ
+install_size remotes = 43 + 52 * length remotes
 
 -- the body of an entry; those of the other entries are never written
 abbrev pub body_of : Item → List ℕ

@@ -4,7 +4,8 @@ ghost use Rattle.std.specs.List.{flat_map};
 ghost use Rattle.repo_entries.specs.Batches.{AreContents, IsBatch};
 ghost use Rattle.fetch_wire.specs.Sections.{kind_byte};
 ghost use Rattle.rad_base.specs.RemoteTexts.{pair_text};
-ghost use Rattle.entry_bodies.specs.Bodies.{held_text, install_text, put_text};
+ghost use Rattle.entry_bodies.specs.Bodies.{held_text, install_size, install_text, put_size};
+ghost use Rattle.entry_bodies.specs.Bodies.{put_text};
 
 use git_object::Kind;
 use rad_base::{Bytes, Nid, NoMemory, Oid, Remotes, Rid};
@@ -130,6 +131,7 @@ fn install_bytes(
 pub fn put_body(alloc: Global, rid: &Rid, batch: &Batch) -> Result<Bytes, NoMemory>
     requires { IsBatch batch.now }
     ensures text { IfOk result (λ body. body ≡ put_text rid.now batch.now) }
+    ensures size { IfOk result (λ body. length body ≡ put_size batch.now) }
     ensures fits { IfOk result (λ body. length body ≤ 34000000) }
 {
     let body = put_bytes(alloc, rid, batch)?;
@@ -146,6 +148,7 @@ pub fn install_body(
 ) -> Result<Bytes, NoMemory>
     requires { length remotes.now ≤ 1024 }
     ensures text { IfOk result (λ body. body ≡ install_text rid.now id.now remotes.now) }
+    ensures size { IfOk result (λ body. length body ≡ install_size remotes.now) }
     ensures fits { IfOk result (λ body. length body ≤ 34000000) }
 {
     let body = install_bytes(alloc, rid, id, remotes.as_slice())?;

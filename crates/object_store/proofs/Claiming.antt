@@ -35,7 +35,7 @@ IsRealClaim (missed of left caller) = Unit {0}
 IsRealClaim (refused rid why caller) = Unit {0}
 
 -- so has each of a legal history
-real_claims : (keyring : Contents) (before items : List Item) → LegalFrom keyring before items → AllByRecursion IsRealClaim items
+pub real_claims : (keyring : Contents) (before items : List Item) → LegalFrom keyring before items → AllByRecursion IsRealClaim items
 real_claims keyring before [] l = tt
 real_claims keyring before (claim rid caller ∷ items) l = (l.0.0, real_claims keyring (before ++ claim rid caller ∷ []) items l.1)
 real_claims keyring before (put rid batch caller ∷ items) l = (tt, real_claims keyring (before ++ put rid batch caller ∷ []) items l.1)
@@ -49,7 +49,7 @@ first_claim true c rest now later f some e = absurd (omega (arith, some, e))
 first_claim false c rest now later f some e = f e
 
 -- who claims what nobody claimed
-claimant_now : (rid : Rid) (items : List Item) (caller : ℕ) → AllByRecursion IsRealClaim items → claimant rid items ≡ 0 → claimant rid (items ++ claim rid caller ∷ []) ≡ caller
+pub claimant_now : (rid : Rid) (items : List Item) (caller : ℕ) → AllByRecursion IsRealClaim items → claimant rid items ≡ 0 → claimant rid (items ++ claim rid caller ∷ []) ≡ caller
 claimant_now rid [] caller real e = ap (λ (b : Bool). if b then caller else 0) (is_itself rid)
 claimant_now rid (claim q c ∷ items) caller real e =
     first_claim (is_same rid q) c (claimant rid items) caller (claimant rid (items ++ claim rid caller ∷ [])) (λ f. claimant_now rid items caller real.1 f) real.0 e
@@ -59,7 +59,7 @@ claimant_now rid (missed q l c ∷ items) caller real e = claimant_now rid items
 claimant_now rid (refused q w c ∷ items) caller real e = claimant_now rid items caller real.1 e
 
 -- and of another repository
-claimant_other : (rid of : Rid) (items : List Item) (caller : ℕ) → is_same rid of ≡ false → claimant rid (items ++ claim of caller ∷ []) ≡ claimant rid items
+pub claimant_other : (rid of : Rid) (items : List Item) (caller : ℕ) → is_same rid of ≡ false → claimant rid (items ++ claim of caller ∷ []) ≡ claimant rid items
 claimant_other rid of [] caller other = ap (λ (b : Bool). if b then caller else 0) other
 claimant_other rid of (claim q c ∷ items) caller other = ap (λ (n : ℕ). if is_same rid q then c else n) (claimant_other rid of items caller other)
 claimant_other rid of (put q b c ∷ items) caller other = claimant_other rid of items caller other

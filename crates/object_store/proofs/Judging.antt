@@ -31,7 +31,7 @@ use Rattle.repo_slice.specs.declared.verdict.Judged.{Judged}
 use Rattle.repo_slice.proofs.NextStates.{next_good}
 use Rattle.repo_slice.proofs.OfferedAgain.{allowed_again}
 use Rattle.repo_slice.proofs.Replacing.{replaced_replaces}
-use Rattle.entry_bodies.specs.Bodies.{install_text}
+use Rattle.entry_bodies.specs.Bodies.{install_size, install_text}
 use Rattle.legal_history.specs.Cores.{Core}
 use Rattle.legal_history.specs.Durable.{durable_part}
 use Rattle.legal_history.specs.Histories.{Lawful}
@@ -183,15 +183,16 @@ module _ {D : Type 0} (reads : D → Option (List ℕ)) (images : D → List ℕ
           (verdict, wrote reads images old ready new core rid s prepares others k caller (install_of rid caller judged) tt lawful body entry b entry_is w (grown w.admitted))
 
       -- an install that was not
-      pub not_installed : (fault : KeepFault) → (fault ≡ keeps.Full → 2 ^ 40 < ready.journal.end + 10 + length body) → IsWriteFault reads images ready new rid caller entry body fault
+      pub not_installed : (fault : KeepFault) → length body ≡ install_size judged.advanced → (fault ≡ keeps.Full → 2 ^ 40 < ready.journal.end + 10 + length body)
+          → IsWriteFault reads images ready new rid caller entry body fault
           → IsInstall reads images old new core rid offer scope caller (Err fault)
-      not_installed keeps.DiskFault full w = (judged, verdict, not_wrote reads images old ready new core rid s prepares others k caller (install_of rid caller judged) tt lawful body entry b entry_is keeps.DiskFault w)
-      not_installed keeps.Full full w = (
+      not_installed keeps.DiskFault size full w = (judged, verdict, not_wrote reads images old ready new core rid s prepares others k caller (install_of rid caller judged) tt lawful body entry b entry_is keeps.DiskFault w)
+      not_installed keeps.Full size full w = (
         judged,
         verdict,
-        subst (λ (l : List ℕ). 2 ^ 40 < old.journal.end + 10 + length l) b
+        subst (λ (n : ℕ). 2 ^ 40 < old.journal.end + 10 + n) size
             (subst (λ (x : Journal D). 2 ^ 40 < x.end + 10 + length body) prepares.journal (full refl)),
         not_wrote reads images old ready new core rid s prepares others k caller (install_of rid caller judged) tt lawful body entry b entry_is keeps.Full w,
       )
-      not_installed (keeps.Changed change) full w = absurd w
-      not_installed keeps.NoMemory full w = absurd w
+      not_installed (keeps.Changed change) size full w = absurd w
+      not_installed keeps.NoMemory size full w = absurd w

@@ -1,11 +1,13 @@
 pub mod Claiming
 pub mod Claims
 pub mod Heads
+pub mod Holding
 pub mod Installing
 pub mod Judging
 pub mod Keys
 pub mod Listing
 pub mod Moving
+pub mod OneList
 pub mod Opening
 pub mod Putting
 pub mod Reading

@@ -28,7 +28,7 @@ use Rattle.object_store.specs.declared.store.Store.{Store}
 use Rattle.object_store.proofs.Standing.{claimant_told, each_missed}
 
 -- an entry that is read again has its body
-same_body : (item : Item) → body_of (reopened item) ≡ body_of item
+pub same_body : (item : Item) → body_of (reopened item) ≡ body_of item
 same_body (claim rid caller) = refl
 same_body (put rid batch caller) = refl
 same_body (install rid id remotes caller) = refl

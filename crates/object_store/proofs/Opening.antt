@@ -1,16 +1,25 @@
 -- What opening a store finds.
-use Rattle.std.proofs.Common.{ℕ, List, Option, None, Some, Ok, Err, inr, refl, subst}
+use Rattle.std.proofs.Common.{◌≡◌, ℕ, List, [], ◌∷◌, Option, None, Some, Ok, Err, inr, refl, subst, ◌∙◌}
 use Rattle.std.specs.Prelude.{IfSome}
+use Rattle.std.specs.BTreeMap.{get}
+use Rattle.std.specs.List.{AllByRecursion}
+use Rattle.rad_base.specs.Order.{rid_cmp}
+use Rattle.rad_base.specs.declared.names.Rid.{Rid}
 use Rattle.keyring.specs.Contents.{Contents}
 use Rattle.ref_journal.specs.Holds.{Holds}
 use Rattle.ref_journal.specs.Images.{IsJournal}
 use Rattle.ref_journal.specs.declared.journal.Journal.{Journal}
+use Rattle.repo_entries.specs.Items.{Item, claim, install, missed, put, refused}
+use Rattle.entry_bodies.specs.Bodies.{HasBody}
+use Rattle.legal_history.specs.Replays.{claimant}
+use Rattle.object_store.specs.Held.{IsUnclaimed}
 use Rattle.object_store.specs.Opened.{Explains, IsOpenedStore, OpensAs}
 use Rattle.object_store.specs.Opens.{IsReading}
 use Rattle.object_store.specs.declared.faults.Why.TheVariants.{Damaged, NotLegal}
 use Rattle.object_store.specs.declared.replayed.ReadFault.TheVariants as read
 use Rattle.object_store.specs.declared.replayed.Replayed.{Replayed}
 use Rattle.object_store.specs.declared.store.Store.{Store}
+use Rattle.object_store.proofs.Standing.{claimant_told}
 
 -- what the journal told when it opened
 abbrev pub Told : {D : Type 0} → (D → Option (List ℕ)) → (D → List ℕ → Type 0) → Journal D → Option (List ℕ) → Type 0
@@ -25,6 +34,20 @@ pub opens_ok : {D : Type 0} (reads : D → Option (List ℕ)) (images : D → Li
     → IsReading reads images old keyring (Ok r) → OpensAs keyring (store_of new keyring r)
 opens_ok reads images old new keyring r (items, bodies, replayed, only) =
     (refl, (items, record { entries = replayed.entries; each = replayed.each; legal = replayed.legal }))
+
+-- nobody claimed anything in entries that were read
+unclaimed : (rid : Rid) (items : List Item) → AllByRecursion HasBody items → claimant rid items ≡ 0
+unclaimed rid [] h = refl
+unclaimed rid (claim q c ∷ items) h = absurd h.0
+unclaimed rid (put q b c ∷ items) h = unclaimed rid items h.1
+unclaimed rid (install q i r c ∷ items) h = unclaimed rid items h.1
+unclaimed rid (missed q l c ∷ items) h = absurd h.0
+unclaimed rid (refused q w c ∷ items) h = absurd h.0
+
+pub opens_unclaimed : {D : Type 0} (reads : D → Option (List ℕ)) (images : D → List ℕ → Type 0) (old new : Journal D) (keyring : Contents) (r : Replayed)
+    → IsReading reads images old keyring (Ok r) → IsUnclaimed (store_of new keyring r)
+opens_unclaimed reads images old new keyring r (items, bodies, replayed, only) rid =
+    claimant_told (get rid_cmp r.repositories rid) rid items (replayed.each rid) ∙ unclaimed rid items bodies
 
 pub opened_ok : {D : Type 0} (reads : D → Option (List ℕ)) (images : D → List ℕ → Type 0) (old new : Journal D) (keyring : Contents) (known : Option (List ℕ)) (r : Replayed)
     → Told reads images old known → ((bodies : List (List ℕ)) → Holds reads images old bodies None → Holds reads images new bodies None)

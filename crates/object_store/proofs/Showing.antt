@@ -96,7 +96,7 @@ shown_lives rid s (item ∷ items) f (inl now) = lives_items rid (after_item rid
 shown_lives rid s (item ∷ items) f (inr later) = shown_lives rid (after_item rid s item) items f.1 later
 
 -- an entry of another makes nothing of it
-nothing_made : (rid : Rid) (s : Standing) (item : Item) → (Concerns rid item → ⊥) → after_item rid s item ≡ s
+pub nothing_made : (rid : Rid) (s : Standing) (item : Item) → (Concerns rid item → ⊥) → after_item rid s item ≡ s
 nothing_made rid s (claim of caller) other = refl
 nothing_made rid s (put of batch caller) other = by_test (is_same rid of) refl
   where

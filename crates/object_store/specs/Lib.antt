@@ -1,4 +1,5 @@
 pub mod Bodies
+pub mod Codes
 pub mod Entries
 pub mod Held
 pub mod Installs

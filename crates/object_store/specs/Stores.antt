@@ -1,5 +1,5 @@
 -- What a store stands for, and what its calls do.
-use Rattle.std.specs.Prelude.{◌≡◌, ◌⊎◌, ℕ, ◌+◌, ◌^◌, ◌<◌, ◌≤◌, length, List, [], ◌∷◌, map, Option}
+use Rattle.std.specs.Prelude.{◌≡◌, ◌⊎◌, ℕ, ◌+◌, ◌^◌, ◌<◌, ◌≤◌, List, [], ◌∷◌, map, Option}
 use Rattle.std.specs.Prelude.{Some, Result, Ok, Err}
 use Rattle.std.specs.BTreeMap.{get}
 use Rattle.rad_base.specs.declared.names.Rid.{Rid}
@@ -11,10 +11,11 @@ use Rattle.repo_entries.specs.Items.{Item, entry_of, install, put}
 use Rattle.repo_slice.specs.declared.keep_fault.KeepFault.{KeepFault}
 use Rattle.repo_slice.specs.declared.keep_fault.KeepFault.TheVariants as keeps
 use Rattle.repo_entries.specs.declared.whole.Whole.{Whole}
+use Rattle.repo_slice.specs.Keeps.{size_of}
 use Rattle.repo_slice.specs.Verdicts.{IsVerdict}
 use Rattle.repo_slice.specs.declared.scope.Scope.{Scope}
 use Rattle.repo_slice.specs.declared.verdict.Judged.{Judged}
-use Rattle.entry_bodies.specs.Bodies.{body_of}
+use Rattle.entry_bodies.specs.Bodies.{install_size}
 use Rattle.ref_journal.specs.Holds.{Holds}
 use Rattle.legal_history.specs.Cores.{Core, Event, Runs, claims, doubts, enters, mends, misses}
 use Rattle.legal_history.specs.Cores.{refuses}
@@ -102,7 +103,7 @@ StandsForSome store = (items : List Item) × StandsFor store items
 
 -- the journal has no room for an entry's body
 abbrev pub LacksRoomFor : ℕ → Item → Type 0
-LacksRoomFor end item = 2 ^ 40 < end + 10 + length (body_of item)
+LacksRoomFor end item = 2 ^ 40 < end + 10 + size_of item
 
 -- the verdict on an offer, on what the entries make of a repository
 abbrev pub IsVerdictBehind : Contents → List Item → Rid → Offer → Scope → Result Judged Whole → Type 0
@@ -138,3 +139,9 @@ IsInstall reads images old new core rid offer scope caller (Err keeps.NoMemory) 
 abbrev pub JournalHadRoom : ℕ → Rid → ℕ → Result Judged Whole → Type 0
 JournalHadRoom end rid caller (Ok judged) = LacksRoomFor end (install_of rid caller judged) → ⊥
 JournalHadRoom end rid caller (Err why) = Unit {0}
+
+-- an entry that was written has the journal end behind it; else the end stays
+abbrev pub EndsBehind : ℕ → ℕ → Result (Result Judged Whole) KeepFault → Type 0
+EndsBehind old new (Ok (Ok judged)) = new ≡ old + 9 + install_size judged.advanced
+EndsBehind old new (Ok (Err why)) = new ≡ old
+EndsBehind old new (Err fault) = new ≡ old

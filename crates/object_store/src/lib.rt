@@ -3,6 +3,7 @@
 
 mod faults;
 mod install;
+mod laws;
 mod missed;
 mod replayed;
 mod repository;
@@ -13,5 +14,6 @@ mod tests;
 mod wanted;
 
 pub use faults::{ClaimFault, StoreFault, Why};
+pub use laws::bytes_have_one_list;
 pub use repo_slice::KeepFault;
 pub use store::Store;

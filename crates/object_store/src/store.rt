@@ -16,7 +16,7 @@ ghost use Rattle.rad_base.specs.declared.names.Rid.{Rid};
 ghost use Rattle.repo_entries.specs.Batches.{IsBatch};
 ghost use Rattle.repo_entries.specs.Histories.{HasRoom};
 ghost use Rattle.repo_entries.specs.Items.{Item, names_of};
-ghost use Rattle.entry_bodies.specs.Bodies.{install_text, put_text};
+ghost use Rattle.entry_bodies.specs.Bodies.{install_size, install_text, put_size, put_text};
 ghost use Rattle.legal_history.specs.Cores.{Core};
 ghost use Rattle.object_store.specs.Installs.{HasFew, HasStagedInstall, IsVerdictAt};
 ghost use Rattle.object_store.specs.Repositories.{HasStagedPut, IsIdle, IsPrepared, IsSame};
@@ -51,7 +51,8 @@ pub struct Store<D> {
 // The body of a put in its frame.
 fn put_parcel(alloc: Global, rid: &Rid, batch: &Batch) -> Result<Parcel, NoMemory>
     requires { IsBatch batch.now }
-    ensures { IfOk result (λ parcel. parcel ≡ put_text rid.now batch.now) }
+    ensures text { IfOk result (λ parcel. parcel ≡ put_text rid.now batch.now) }
+    ensures size { IfOk result (λ parcel. length parcel ≡ put_size batch.now) }
 {
     let body = put_body(alloc, rid, batch)?;
     Parcel::of(alloc, body.as_slice())
@@ -60,7 +61,9 @@ fn put_parcel(alloc: Global, rid: &Rid, batch: &Batch) -> Result<Parcel, NoMemor
 // The body of an install of what is offered, in its frame.
 fn install_parcel(alloc: Global, rid: &Rid, offer: &Offer) -> Result<Parcel, NoMemory>
     requires { length offer.now.remotes ≤ 1024 }
-    ensures { IfOk result (λ parcel. parcel ≡ install_text rid.now offer.now.id offer.now.remotes) }
+    ensures text { IfOk result (λ parcel. parcel
+        ≡ install_text rid.now offer.now.id offer.now.remotes) }
+    ensures size { IfOk result (λ parcel. length parcel ≡ install_size offer.now.remotes) }
 {
     let body = install_body(alloc, rid, &offer.id, &offer.remotes)?;
     Parcel::of(alloc, body.as_slice())
@@ -87,10 +90,11 @@ fn fault<D>(disk: D, why: Why) -> StoreFault<D>
 }
 
 impl<D: Disk> Store<D> {
-    ghost use Rattle.object_store.specs.Held.{held_in};
+    ghost use Rattle.object_store.specs.Held.{IsUnclaimed, held_in};
     ghost use Rattle.object_store.specs.Shown.{AreRisingRids, IsShownAs, ShowsRepository};
     ghost use Rattle.object_store.specs.Opened.{HasStoreOpenCause, IsOpenedStore, OpensAs, disk_of_opened};
-    ghost use Rattle.object_store.specs.Stores.{JournalHadRoom, HasClaimed, IsClaiming, IsInstall, IsPut};
+    ghost use Rattle.object_store.specs.Stores.{EndsBehind, HasClaimed, IsClaiming, IsInstall, IsPut};
+    ghost use Rattle.object_store.specs.Stores.{JournalHadRoom};
     ghost use Rattle.object_store.specs.Stores.{KeepsClaims, StandsForSome, StandsFor};
     ghost use Rattle.object_store.specs.Writes.{HasWritten, IsWriteFault};
 
@@ -101,6 +105,7 @@ impl<D: Disk> Store<D> {
             disk (disk_of_opened result) }
         ensures cause { IfErr result (HasStoreOpenCause (D.faults disk) D.faults) }
         ensures stands { IfOk result (OpensAs keyring) }
+        ensures unclaimed { IfOk result IsUnclaimed }
         ensures opened { IfSome (D.reads_as disk)
             (λ bytes. IsOpenedStore D.reads_as D.images keyring bytes result) }
     {
@@ -230,6 +235,7 @@ impl<D: Disk> Store<D> {
     pub fn claim(&mut self, alloc: Global, rid: &Rid, caller: u64) -> Result<(), ClaimFault>
         requires { 1 ≤ caller }
         ensures journal { self.new.journal ≡ self.old.journal }
+        ensures keyring { self.new.keyring ≡ self.old.keyring }
         ensures claimed { OnOk result (HasClaimed self.new rid.now caller) }
         ensures claims { KeepsClaims self.old self.new }
         ensures events { (core : Core) → StandsFor self.old core.items
@@ -259,9 +265,13 @@ impl<D: Disk> Store<D> {
         ensures cause { IsErrOf result KeepFault.DiskFault
             → Rose (D.faults self.old.journal.disk) (D.faults self.new.journal.disk) }
         ensures full { IsErrOf result KeepFault.Full
-            → 2 ^ 40 < self.old.journal.end + 10 + length (put_text rid.now batch.now) }
-        ensures only_full { 2 ^ 40 < self.old.journal.end + 10 + length (put_text rid.now batch.now)
+            → 2 ^ 40 < self.old.journal.end + 10 + put_size batch.now }
+        ensures only_full { 2 ^ 40 < self.old.journal.end + 10 + put_size batch.now
             → IsErrOf result KeepFault.Full ⊎ IsErrOf result KeepFault.NoMemory }
+        ensures keyring { self.new.keyring ≡ self.old.keyring }
+        ensures end { OnOk result
+            (self.new.journal.end ≡ self.old.journal.end + 9 + put_size batch.now) }
+        ensures end_stays { OnErr result (self.new.journal.end ≡ self.old.journal.end) }
         ensures claims { KeepsClaims self.old self.new }
         ensures events { (core : Core) → StandsFor self.old core.items
             → IsPut D.reads_as D.images self.old self.new core rid.now batch.now caller result }
@@ -290,6 +300,8 @@ impl<D: Disk> Store<D> {
         ensures cause { IsErrOf result KeepFault.DiskFault
             → Rose (D.faults self.old.journal.disk) (D.faults self.new.journal.disk) }
         ensures room { IfOk result (JournalHadRoom self.old.journal.end rid.now caller) }
+        ensures keyring { self.new.keyring ≡ self.old.keyring }
+        ensures end { EndsBehind self.old.journal.end self.new.journal.end result }
         ensures claims { KeepsClaims self.old self.new }
         ensures events { (core : Core) → StandsFor self.old core.items
             → IsInstall D.reads_as D.images self.old self.new core rid.now offer.now scope.now
@@ -366,6 +378,7 @@ impl<D: Disk> Store<D> {
             offer.id offer.remotes caller) }
         ensures parcel { IfOk result (λ x. x.1
             ≡ install_text rid.now offer.id offer.remotes) }
+        ensures size { IfOk result (λ x. length x.1 ≡ install_size offer.remotes) }
     {
         let parcel = install_parcel(alloc, rid, &offer)?;
         let entry = stage_install_at(alloc, &mut self.repositories, rid, caller, offer)?;
@@ -389,6 +402,9 @@ impl<D: Disk> Store<D> {
             → Rose (D.faults self.old.journal.disk) (D.faults self.new.journal.disk) }
         ensures full { IsErrOf result KeepFault.Full
             ↔ (2 ^ 40 < self.old.journal.end + 10 + length parcel.now) }
+        ensures end { OnOk result
+            (self.new.journal.end ≡ self.old.journal.end + 9 + length parcel.now) }
+        ensures end_stays { OnErr result (self.new.journal.end ≡ self.old.journal.end) }
         ensures keyring { self.new.keyring ≡ self.old.keyring }
         ensures others { (other : Rid) → other ≢ rid.now
             → get rid_cmp self.new.repositories other ≡ get rid_cmp self.old.repositories other }
@@ -443,6 +459,7 @@ impl<D: Disk> Store<D> {
             ≡ Entry.Put (own_rid (get rid_cmp self.old.repositories rid.now) rid.now)
             (names_of batch.now) caller) }
         ensures parcel { IfOk result (λ x. x.1 ≡ put_text rid.now batch.now) }
+        ensures size { IfOk result (λ x. length x.1 ≡ put_size batch.now) }
     {
         self.history.make_room()?;
         let parcel = put_parcel(alloc, rid, batch)?;

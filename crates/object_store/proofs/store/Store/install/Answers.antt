@@ -98,7 +98,7 @@ returns-in_err-write-clause-events g c =
     c.in_ok-entry.parcel c.in_ok-entry.entry (rw (c.in_ok-next.ensures.next.0, c.in_ok-next.ensures.next.1) at c.in_ok-entry.ensures.parcel)
     (rw (c.in_ok-next.ensures.next.0, c.in_ok-next.ensures.next.1) at c.in_ok-entry.ensures.entry)
     (rw (c.in_ok-next.ensures.next.0, c.in_ok-next.ensures.next.1) at c.in_ok-entry.ensures.staged) c.in_err-write.field-0.0
-    (λ full. c.in_err-write.ensures.full.0 (ap Err full)) c.in_err-write.ensures.fault)
+    (rw c.in_ok-next.ensures.next.1 at c.in_ok-entry.ensures.size) (λ full. c.in_err-write.ensures.full.0 (ap Err full)) c.in_err-write.ensures.fault)
 
 pub returns-clause-events : goal.returns-clause-events
 returns-clause-events g c = λ core s.

@@ -1,0 +1,18 @@
+-- A code of the repositories of a store, for models of types that hold one.
+use Rattle.std.specs.BTreeMap.{BTreeMap}
+use Rattle.std.specs.Coded.{Coded}
+use Rattle.std.specs.contracts.alloc.Global as global
+use Rattle.std.specs.contracts.collections.BTreeMap as tree
+use Rattle.std.specs.contracts.impls.GlobalAllocator.TheImpl.{ghosts}
+use Rattle.rad_base.specs.contracts.names.Rid as rid
+use Rattle.rad_base.specs.contracts.names.RidOrd.TheImpl as ord
+use Rattle.rad_base.specs.contracts.names.RidPartialEq.TheImpl as eq
+use Rattle.rad_base.specs.contracts.names.RidPartialOrd.TheImpl as partial_ord
+use Rattle.rad_base.specs.declared.names.Rid.{Rid}
+use Rattle.object_store.specs.contracts.repository.Repository as repository
+use Rattle.object_store.specs.declared.repository.Repository.{Repository}
+
+-- a map of repositories by their names
+abbrev pub coded_repositories : Coded (BTreeMap Rid Repository)
+coded_repositories =
+    (tree.the_row rid.the_row repository.the_row global.the_row ord.ghosts eq.ghosts partial_ord.ghosts ghosts).coded
