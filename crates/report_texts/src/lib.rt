@@ -1,0 +1,19 @@
+//! The words that the commands print of a job, and of what a store has.
+#![tactic(auto)]
+
+mod counts;
+mod end;
+mod head;
+mod job;
+mod outcome;
+mod parts;
+mod shown;
+#[cfg(test)]
+mod tests;
+
+pub use counts::{Counts, Generated, push_audit, push_generated, push_made};
+pub use end::{push_end, push_whole};
+pub use head::{push_head, push_head_of};
+pub use job::{push_job, push_remotes};
+pub use outcome::{push_id_outcome, push_outcome};
+pub use shown::{ShownRemote, push_remote, push_repository};
