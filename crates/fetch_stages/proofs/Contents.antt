@@ -23,7 +23,7 @@ use Rattle.fetch_wire.specs.declared.part.Which.TheVariants as which
 use Rattle.fetch_wire.specs.declared.section_reader.SectionReader.{SectionReader}
 use Rattle.fetch_wire.specs.declared.units.SectionUnits.{SectionUnits}
 use Rattle.fetch_wire.proofs.SectionsSpelled.{read_is_spelled}
-use Rattle.fetch_stages.specs.Sections.{ReadsToEnd, object_of_part, objects_among}
+use Rattle.fetch_stages.specs.Sections.{GivesParts, ReadsToEnd, object_of_part, objects_among}
 use Rattle.fetch_stages.proofs.Parts.{contents_before}
 
 -- bytes behind bytes
@@ -121,11 +121,10 @@ pub contents_before_break : (w : Which) (fed piece : List ℕ) (parts got : List
 contents_before_break w fed piece parts got broken f g e =
     contents_last parts got (contents_read w (fed ++ piece) (record { items = parts ++ got; place = Broken broken }) (bytes_more fed piece f g) e)
 
--- the parts among what a reader has read
-pub items_so_far : (w : Which) (fed : List ℕ) (parts : List Part) (reader : SectionReader) → HasRead w fed parts reader
-    → (read_of w fed).items ≡ parts
-items_so_far w fed parts reader h =
-    ap (λ (r : Reading SectionUnits Part Break). r.items) (reads_so_far w fed parts reader h)
+-- the parts that what a reader has read gives
+pub gives_so_far : (w : Which) (fed : List ℕ) (parts : List Part) (reader : SectionReader) → HasRead w fed parts reader
+    → GivesParts w fed parts
+gives_so_far w fed parts reader h = (At (unit_of reader) (held_of reader) [], reads_so_far w fed parts reader h, refl)
 
 -- a broken unit, behind the same parts
 pub broken_at : (w : Which) (fed piece : List ℕ) (parts before got : List Part) (broken : Break) → got ≡ before
@@ -134,12 +133,15 @@ pub broken_at : (w : Which) (fed piece : List ℕ) (parts before got : List Part
 broken_at w fed piece parts before got broken e h = rw e h
 
 -- the parts before a broken unit, all of the piece used
-pub items_before_break : (w : Which) (fed piece : List ℕ) (parts before got : List Part) (broken : Break) → got ≡ before
+pub gives_before_break : (w : Which) (fed piece : List ℕ) (parts before got : List Part) (broken : Break) → got ≡ before
     → read_of w (fed ++ piece) ≡ record { items = parts ++ before; place = Broken broken }
-    → (read_of w (fed ++ take (length piece) piece)).items ≡ parts ++ got
-items_before_break w fed piece parts before got broken e h =
-    ap (λ (l : List ℕ). (read_of w (fed ++ l)).items) (take_all (length piece) piece (omega arith))
-    ∙ ap (λ (r : Reading SectionUnits Part Break). r.items) (broken_at w fed piece parts before got broken e h)
+    → GivesParts w (fed ++ take (length piece) piece) (parts ++ got)
+gives_before_break w fed piece parts before got broken e h = (
+  Broken broken,
+  ap (λ (l : List ℕ). read_of w (fed ++ l)) (take_all (length piece) piece (omega arith))
+      ∙ broken_at w fed piece parts before got broken e h,
+  tt,
+)
 
 -- what is read where a piece shows a break
 pub fed_broken : (w : Which) (fed : List ℕ) (parts : List Part) (piece : List ℕ) (reader : SectionReader)

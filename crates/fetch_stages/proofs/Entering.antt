@@ -1,12 +1,13 @@
 -- Entries that calls of a keep make one behind the other, and what they leave.
-use Rattle.std.proofs.Common.{◌≡◌, ◌≤◌, ℕ, List, [], ◌++◌, Option, refl, sym, ap, ◌∙◌, subst, arith, append_assoc}
+use Rattle.std.proofs.Common.{◌≡◌, ◌≤◌, ℕ, List, [], ◌∷◌, ◌++◌, inl, Option, refl, sym, ap, ◌∙◌, subst, arith, append_assoc}
 use Rattle.std.specs.Prelude.{IsTrue}
 use Rattle.std.proofs.lemmas.List.{append-nil, map-append}
 use Rattle.rad_base.specs.declared.names.Rid.{Rid}
 use Rattle.commit_graph.specs.Objects.{Object, ObjectMap}
 use Rattle.repo_entries.specs.Items.{Item, put}
+use Rattle.repo_entries.specs.declared.entry.Left.{Left}
 use Rattle.repo_entries.specs.declared.entry.Left.TheVariants.{Nothing}
-use Rattle.repo_slice.specs.Keeps.{Constants, Held, IsKeepCause, IsNoChange, LeavesOthers, Makes, StopsIn, missed_by}
+use Rattle.repo_slice.specs.Keeps.{Constants, Held, IsKeepCause, IsNoChange, LeavesOthers, LacksRoom, Makes, MayLeave, StopsIn, missed_by}
 use Rattle.repo_slice.specs.declared.keep_fault.KeepFault.{KeepFault}
 use Rattle.repo_slice.specs.declared.keep_fault.KeepFault.TheVariants as fault
 use Rattle.fetch_stages.specs.Puts.{puts_of}
@@ -66,6 +67,15 @@ pub makes_along : {K : Type 0} (made : K → List Item → Type 0) (a b c : K) (
 makes_along made a b c xs ys f g before h =
     subst (λ (l : List Item). made c l) (append_assoc before xs ys) (g (before ++ xs) (f before h))
 
+doubt_more : (rest more : List Item) (left : Left) → MayLeave rest left → MayLeave (rest ++ more) left
+doubt_more [] [] left h = h
+doubt_more [] (item ∷ more) left h = inl h
+doubt_more (item ∷ rest) more left h = h
+
+room_more : (end : ℕ) (rest more : List Item) → LacksRoom end rest → LacksRoom end (rest ++ more)
+room_more end [] more h = absurd h
+room_more end (item ∷ rest) more h = h
+
 no_memory_is_not_full : fault.NoMemory ≡ fault.Full → ⊥
 no_memory_is_not_full e = cc e
 
@@ -79,7 +89,7 @@ module _ {K : Type 0} (made : K → List Item → Type 0) (rid : Rid) (caller : 
       (makes_along made a b c (puts_of rid caller xs) (puts_of rid caller ys) f g)
 
   -- a refusal behind entries
-  stops_behind : (end : ℕ) (a b c : K) (xs ys : List Item) (why : KeepFault) → Makes made a b xs
+  pub stops_behind : (end : ℕ) (a b c : K) (xs ys : List Item) (why : KeepFault) → Makes made a b xs
       → StopsIn made rid caller end b c ys why → StopsIn made rid caller end a c (xs ++ ys) why
   stops_behind end a b c xs ys why f s = (
     xs ++ s.0,
@@ -120,4 +130,21 @@ module _ {K : Type 0} (made : K → List Item → Type 0) (rid : Rid) (caller : 
       history_is = sym (append-nil es);
     },
     g,
+  )
+
+  -- a refusal among the first entries
+  pub stops_among : (end : ℕ) (old new : K) (xs ys : List Item) (why : KeepFault)
+      → StopsIn made rid caller end old new xs why → StopsIn made rid caller end old new (xs ++ ys) why
+  stops_among end old new xs ys why s = (
+    s.0,
+    record {
+      done = s.1.done;
+      rest = s.1.rest ++ ys;
+      all = ap (λ (l : List Item). l ++ ys) s.1.all ∙ append_assoc s.1.done s.1.rest ys;
+      left = s.1.left;
+      doubt = doubt_more s.1.rest ys s.1.left s.1.doubt;
+      full = λ e. room_more end s.1.rest ys (s.1.full e);
+      history_is = s.1.history_is;
+    },
+    s.2,
   )

@@ -22,7 +22,7 @@ use Rattle.fetch_wire.specs.declared.section_reader.SectionReader.{SectionReader
 use Rattle.fetch_wire.specs.declared.units.SectionUnits.{SectionUnits}
 use Rattle.fetch_stages.specs.Pieces.{Fills, Uses}
 use Rattle.fetch_stages.specs.Puts.{Joins, PutsAll, StopsPutting}
-use Rattle.fetch_stages.specs.Sections.{ComesTo, HasReadBytes, HasReadCause, StopsInSection, PutsPiece, PutsSection, PutsSome, PutsUpTo, StopsSection, head_of, object_of_part, objects_among}
+use Rattle.fetch_stages.specs.Sections.{ComesTo, GivesParts, HasReadBytes, HasReadCause, ReadsToEnd, StopsInSection, PutsPiece, PutsSection, PutsSome, PutsUpTo, StopsSection, head_of, object_of_part, objects_among}
 use Rattle.fetch_stages.specs.declared.piece.Used.{Used}
 use Rattle.fetch_stages.specs.declared.section.Section.{Section}
 use Rattle.fetch_stages.specs.declared.section_stop.SectionStop.{SectionStop}
@@ -136,13 +136,14 @@ module _ {K : Type 0} {made : K → List Item → Type 0} {held : K → Rid → 
   -- the section stops by its bytes
   pub stops_now : (end : ℕ) (at_end : Type 0) (why : SectionStop) → ComesTo which limit s.used after s.parts at_end why
       → ((objects : List Object) → (waiting : List Object) × PutsSome made held rid caller a b objects waiting
-      → PutsUpTo made held rid caller end a b objects why)
+      → PutsUpTo made held rid caller end a b (ReadsToEnd which s.used s.parts) objects why)
       → StopsSection made held rid caller end a b which limit l l' before after at_end why
   stops_now end at_end why comes puts = record {
     used = s.used;
     parts = s.parts;
     uses = s.uses;
     within = omega (arith, s.count);
+    fits = s.fits;
     comes = comes;
     puts = puts (objects_among s.parts) (taken.batcher, puts_some (objects_among s.parts) taken.batcher s.joins);
   }
@@ -180,6 +181,7 @@ module _ {K : Type 0} {made : K → List Item → Type 0} {held : K → Rid → 
         parts = s.parts;
         uses = s.uses;
         within = omega (arith, s.count);
+        fits = s.fits;
         ends = reads_to_end which s.used s.parts reader s.fits s.read over;
         puts = record {
           batches = x.0 ++ y.0;
@@ -191,10 +193,10 @@ module _ {K : Type 0} {made : K → List Item → Type 0} {held : K → Rid → 
       }
 
   -- the last batch is not put
-  pub stops_last_put : (c : K) (end : ℕ) (at_end : Type 0) (why : KeepFault)
+  pub stops_last_put : (c : K) (end : ℕ) (at_end : Type 0) (why : KeepFault) → is_over (unit_of reader) ≡ true
       → StopsPutting made rid caller end b c taken.batcher why
       → StopsSection made held rid caller end a c which limit l l' before after at_end (stop.Keep why)
-  stops_last_put c end at_end why f =
+  stops_last_put c end at_end why over f =
       let x = s.joins [] [] (refl, refl) in
       let y = f (objects_among s.parts) x.0 x.1 in
       record {
@@ -202,18 +204,20 @@ module _ {K : Type 0} {made : K → List Item → Type 0} {held : K → Rid → 
         parts = s.parts;
         uses = s.uses;
         within = omega (arith, s.count);
+        fits = s.fits;
         comes = (
           0,
           omega arith,
-          ap (λ (k : List ℕ). (read_of which k).items) (append-nil s.used)
-              ∙ ap (λ (r : Reading SectionUnits Part Break). r.items) (reads_so_far which s.used s.parts reader s.read),
+          (
+            At (unit_of reader) (held_of reader) [],
+            ap (λ (k : List ℕ). read_of which k) (append-nil s.used) ∙ reads_so_far which s.used s.parts reader s.read,
+            refl,
+          ),
+          subst (λ (l : List ℕ). IsBytes l) (sym (append-nil s.used)) s.fits,
         );
         puts = (
-          objects_among s.parts,
-          [],
-          sym (append-nil (objects_among s.parts)),
           x.0 ++ y.0,
-          inr y.1,
+          inr (reads_to_end which s.used s.parts reader s.fits s.read over, y.1),
           stops_behind_puts made rid caller end a b c x.0 y.0 why x.2.entered y.2,
         );
       }
@@ -230,6 +234,7 @@ module _ {K : Type 0} {made : K → List Item → Type 0} {held : K → Rid → 
         parts = s.parts ++ p.0;
         uses = s.uses;
         within = omega (arith, s.count);
+        fits = s.fits;
         comes = ap (λ (n : ℕ). read_of which (s.used ++ take n after)) rest
             ∙ ap (λ (k : List ℕ). read_of which (s.used ++ k)) (sym e) ∙ p.1;
         puts = rw objects_more (
@@ -241,10 +246,10 @@ module _ {K : Type 0} {made : K → List Item → Type 0} {held : K → Rid → 
 
   -- a call of the keep is refused while the objects of a piece joined
   stops_refused : (c : K) (end : ℕ) (at_end : Type 0) (piece : List ℕ) (reader' : SectionReader) (taken' : Taken) (why : KeepFault)
-      → piece ≡ take left after
+      → piece ≡ take left after → IsBytes piece
       → PutsPiece made held rid caller end b c which s.used s.parts piece taken taken' reader' (Err (stop.Keep why))
       → StopsSection made held rid caller end a c which limit l l' before after at_end (stop.Keep why)
-  stops_refused c end at_end piece reader' taken' why e p =
+  stops_refused c end at_end piece reader' taken' why e fits p =
       let size = length-take left after in
       let within : p.1 ≤ length (take left after) = subst (λ (k : List ℕ). p.1 ≤ length k) e p.2 in
       let few : p.1 ≤ left = omega (arith, within, size) in
@@ -255,12 +260,14 @@ module _ {K : Type 0} {made : K → List Item → Type 0} {held : K → Rid → 
         parts = s.parts ++ p.0;
         uses = s.uses;
         within = omega (arith, s.count);
+        fits = s.fits;
         comes = (
           p.1,
           omega (arith, few, s.count),
-          ap (λ (k : List ℕ). (read_of which (s.used ++ k)).items) (sym first) ∙ p.3,
+          subst (λ (k : List ℕ). GivesParts which (s.used ++ k) (s.parts ++ p.0)) first p.3,
+          subst (λ (k : List ℕ). IsBytes (s.used ++ k)) first (bytes_more s.used (take p.1 piece) s.fits (bytes_front p.1 piece fits)),
         );
-        puts = rw objects_more (t.0, t.1, t.2, t.3, inl (t.4, t.5), t.6);
+        puts = rw objects_more (t.3, inl (t.0, t.1, t.4, t.2, t.5), t.6);
       }
 
   -- memory for the bytes of a piece was refused
@@ -272,15 +279,15 @@ module _ {K : Type 0} {made : K → List Item → Type 0} {held : K → Rid → 
 
   -- a piece is refused
   pub stops_at_piece : (c : K) (end : ℕ) (at_end : Type 0) (piece : List ℕ) (reader' : SectionReader) (taken' : Taken) (why : SectionStop)
-      → is_over (unit_of reader) ≡ false → piece ≡ take left after
+      → is_over (unit_of reader) ≡ false → piece ≡ take left after → IsBytes piece
       → PutsPiece made held rid caller end b c which s.used s.parts piece taken taken' reader' (Err why)
       → StopsSection made held rid caller end a c which limit l l' before after at_end why
-  stops_at_piece c end at_end piece reader' taken' (stop.Bad broken) going e p = stops_broken c end at_end piece reader' taken' broken e p
-  stops_at_piece c end at_end piece reader' taken' (stop.Keep why) going e p = stops_refused c end at_end piece reader' taken' why e p
-  stops_at_piece c end at_end piece reader' taken' stop.NoMemory going e p = stops_for_memory c end at_end going p.0
-  stops_at_piece c end at_end piece reader' taken' stop.ReadFault going e p = absurd p
-  stops_at_piece c end at_end piece reader' taken' (stop.Ends place) going e p = absurd p
-  stops_at_piece c end at_end piece reader' taken' stop.TooLong going e p = absurd p
+  stops_at_piece c end at_end piece reader' taken' (stop.Bad broken) going e fits p = stops_broken c end at_end piece reader' taken' broken e p
+  stops_at_piece c end at_end piece reader' taken' (stop.Keep why) going e fits p = stops_refused c end at_end piece reader' taken' why e fits p
+  stops_at_piece c end at_end piece reader' taken' stop.NoMemory going e fits p = stops_for_memory c end at_end going p.0
+  stops_at_piece c end at_end piece reader' taken' stop.ReadFault going e fits p = absurd p
+  stops_at_piece c end at_end piece reader' taken' (stop.Ends place) going e fits p = absurd p
+  stops_at_piece c end at_end piece reader' taken' (stop.TooLong place) going e fits p = absurd p
 
   -- what a piece is refused for is no fault of the input
   pub read_no_fault : (c : K) (end faults faults' : ℕ) (piece : List ℕ) (reader' : SectionReader) (taken' : Taken) (why : SectionStop)
@@ -291,7 +298,7 @@ module _ {K : Type 0} {made : K → List Item → Type 0} {held : K → Rid → 
   read_no_fault c end faults faults' piece reader' taken' stop.NoMemory p = tt
   read_no_fault c end faults faults' piece reader' taken' stop.ReadFault p = absurd p
   read_no_fault c end faults faults' piece reader' taken' (stop.Ends place) p = tt
-  read_no_fault c end faults faults' piece reader' taken' stop.TooLong p = tt
+  read_no_fault c end faults faults' piece reader' taken' (stop.TooLong place) p = tt
 
   -- a piece of what waits is used
   pub used_piece : (c : K) (rest : List ℕ) (most : ℕ) (u : Used) (reader' : SectionReader) (taken' : Taken) (end : ℕ)

@@ -17,7 +17,7 @@ later_window p a n b whole e h =
     ∙ drop-take n (b - (a + n)) (drop a p) ∙ ap (λ (l : List ℕ). take (b - (a + n)) l) (drop-drop n a p))
 
 -- bytes behind bytes
-consumes_more : (a b c : Option (List ℕ)) (xs ys : List ℕ) → Consumes a b xs → Consumes b c ys
+pub consumes_more : (a b c : Option (List ℕ)) (xs ys : List ℕ) → Consumes a b xs → Consumes b c ys
     → Consumes a c (xs ++ ys)
 consumes_more None b c xs ys f g = tt
 consumes_more (Some x) None c xs ys f g = absurd f
@@ -39,6 +39,49 @@ uses_filled old mid new before used after filled u f = record {
   text = sym (append_assoc before u.taken f.bytes) ∙ ap (λ (l : List ℕ). l ++ f.bytes) u.text
       ∙ append_assoc used after f.bytes ∙ ap (λ (l : List ℕ). used ++ l) (sym f.waits);
 }
+
+-- bytes were taken before
+pub uses_behind : (old mid new : Option (List ℕ)) (before filled used after : List ℕ)
+    → Fills old mid before filled → Uses mid new filled used after → Uses old new before used after
+uses_behind old mid new before filled used after f u = record {
+  taken = f.bytes ++ u.taken;
+  consumed = consumes_more old mid new f.bytes u.taken f.consumed u.consumed;
+  text = sym (append_assoc before f.bytes u.taken) ∙ ap (λ (l : List ℕ). l ++ u.taken) (sym f.waits) ∙ u.text;
+}
+
+-- bytes are used behind bytes
+pub uses_along : (old mid new : Option (List ℕ)) (before used between more after : List ℕ)
+    → Uses old mid before used between → Uses mid new between more after → Uses old new before (used ++ more) after
+uses_along old mid new before used between more after f g = record {
+  taken = f.taken ++ g.taken;
+  consumed = consumes_more old mid new f.taken g.taken f.consumed g.consumed;
+  text = sym (append_assoc before f.taken g.taken) ∙ ap (λ (l : List ℕ). l ++ g.taken) f.text
+      ∙ append_assoc used between g.taken ∙ ap (λ (l : List ℕ). used ++ l) g.text ∙ sym (append_assoc used more after);
+}
+
+-- all that waits is used
+pub uses_all : (old new : Option (List ℕ)) (before used after : List ℕ) → Uses old new before used after
+    → Uses old new before (used ++ after) []
+uses_all old new before used after u = record {
+  taken = u.taken;
+  consumed = u.consumed;
+  text = u.text ∙ sym (append-nil (used ++ after));
+}
+
+-- the first bytes of what waits are used, all of them that are there
+pub uses_front : (old new : Option (List ℕ)) (before used after : List ℕ) (n : ℕ) → Uses old new before used after
+    → Uses old new before (used ++ take n after) (drop n after)
+uses_front old new before used after n u = record {
+  taken = u.taken;
+  consumed = u.consumed;
+  text = u.text ∙ ap (λ (l : List ℕ). used ++ l) (sym (take-append-drop n after))
+      ∙ sym (append_assoc used (take n after) (drop n after));
+}
+
+-- what is taken once more waits behind
+pub fills_behind : (old new : Option (List ℕ)) (before after other : List ℕ) (f : Fills old new before after)
+    → Fills old new other (other ++ f.bytes)
+fills_behind old new before after other f = record { bytes = f.bytes; consumed = f.consumed; waits = refl }
 
 -- the first bytes of what waits are used
 pub uses_more : (old new : Option (List ℕ)) (before used after : List ℕ) (n most : ℕ)

@@ -1,5 +1,8 @@
 pub mod Batches
+pub mod BundleJobs
+pub mod Imports
 pub mod JobEnds
+pub mod Jobs
 pub mod Pieces
 pub mod Puts
 pub mod Sections

@@ -1,5 +1,5 @@
 -- What reading a section and putting its objects comes to.
-use Rattle.std.specs.Prelude.{◌≡◌, ℕ, ◌-◌, ◌≤◌, false, List, [], ◌∷◌, ◌++◌, length, take}
+use Rattle.std.specs.Prelude.{◌≡◌, ◌⊎◌, ℕ, ◌-◌, ◌≤◌, false, List, [], ◌∷◌, ◌++◌, length, take}
 use Rattle.std.specs.Prelude.{Option, None, Some, Result, Ok, Err}
 use Rattle.std.specs.List.{flat_map}
 use Rattle.std.specs.Option.{option_or}
@@ -10,16 +10,17 @@ use Rattle.rad_base.specs.declared.names.Rid.{Rid}
 use Rattle.commit_graph.specs.Objects.{Object, ObjectMap}
 use Rattle.repo_entries.specs.Items.{Item}
 use Rattle.repo_slice.specs.Keeps.{Constants, Held, IsKeepCause, IsNoChange, StopsIn}
-use Rattle.unit_reader.specs.Units.{At, Broken}
+use Rattle.unit_reader.specs.Units.{At, Broken, Place}
 use Rattle.fetch_wire.specs.Judging.{is_over}
 use Rattle.fetch_wire.specs.SectionReaders.{HasRead, unit_of}
 use Rattle.fetch_wire.specs.SectionReadings.{ReadsAs, read_of}
+use Rattle.fetch_wire.specs.declared.fault.Break.{Break}
 use Rattle.fetch_wire.specs.declared.part.Part.{Part}
 use Rattle.fetch_wire.specs.declared.part.Part.TheVariants as part
 use Rattle.fetch_wire.specs.declared.part.Which.{Which}
 use Rattle.fetch_wire.specs.declared.section_reader.SectionReader.{SectionReader}
 use Rattle.fetch_wire.specs.declared.units.SectionUnits.{SectionUnits}
-use Rattle.fetch_stages.specs.Batches.{IsCut, IsFrontCut, IsOpenCut}
+use Rattle.fetch_stages.specs.Batches.{IsCut, IsOpenCut}
 use Rattle.fetch_stages.specs.Pieces.{Uses}
 use Rattle.fetch_stages.specs.Puts.{Joins, PutsBatches, StopsJoining, puts_of}
 use Rattle.fetch_stages.specs.declared.section_stop.SectionStop.{SectionStop}
@@ -67,6 +68,16 @@ pub record StopsInSection (which : Which) (bytes : List ℕ) (parts : List Part)
 abbrev pub ReadsToEnd : Which → List ℕ → List Part → Type 0
 ReadsToEnd which bytes parts = (rest : List ℕ) → ReadsAs which (bytes ++ rest) parts rest
 
+-- no byte stands behind the end
+abbrev pub LeavesNone : Place SectionUnits Break → Type 0
+LeavesNone (At units held rest) = rest ≡ []
+LeavesNone (Broken broken) = Unit {0}
+
+-- these bytes of a section give these parts, and none of them stands behind its end
+abbrev pub GivesParts : Which → List ℕ → List Part → Type 0
+GivesParts which bytes parts = (place : Place SectionUnits Break)
+    × (read_of which bytes ≡ record { items = parts; place = place }) × LeavesNone place
+
 -- the objects are put in their batches
 pub record PutsAllOf {K : Type 0} (made : K → List Item → Type 0) (held : K → Rid → Held)
     (rid : Rid) (caller : ℕ) (old new : K) (objects : List Object) : Type 0 where
@@ -93,7 +104,7 @@ HasKeepCause objects before now (stop.Keep why) =
     IsKeepCause objects before now why × IsNoChange why
 HasKeepCause objects before now stop.ReadFault = Unit {0}
 HasKeepCause objects before now (stop.Ends place) = Unit {0}
-HasKeepCause objects before now stop.TooLong = Unit {0}
+HasKeepCause objects before now (stop.TooLong place) = Unit {0}
 HasKeepCause objects before now (stop.Bad broken) = Unit {0}
 HasKeepCause objects before now stop.NoMemory = Unit {0}
 
@@ -119,14 +130,14 @@ PutsPiece made held rid caller end old new which fed parts piece before after re
 PutsPiece made held rid caller end old new which fed parts piece before after reader
     (Err (stop.Keep why)) =
     (more : List Part) × (used : ℕ) × (used ≤ length piece)
-    × ((read_of which (fed ++ take used piece)).items ≡ parts ++ more)
+    × GivesParts which (fed ++ take used piece) (parts ++ more)
     × StopsJoining made rid caller end old new before.batcher (objects_among more) why
 PutsPiece made held rid caller end old new which fed parts piece before after reader
     (Err stop.ReadFault) = ⊥
 PutsPiece made held rid caller end old new which fed parts piece before after reader
     (Err (stop.Ends place)) = ⊥
 PutsPiece made held rid caller end old new which fed parts piece before after reader
-    (Err stop.TooLong) = ⊥
+    (Err (stop.TooLong place)) = ⊥
 
 -- what a piece comes to, whatever the reader that it is fed to has read
 abbrev pub FeedsPiece : {K : Type 0} → (K → List Item → Type 0) → (K → Rid → Held) → Rid → ℕ → ℕ
@@ -143,26 +154,33 @@ ComesTo which limit used after parts at_end stop.ReadFault =
     (place : ℕ) × StopsInSection which used parts place
 ComesTo which limit used after parts at_end (stop.Ends place) =
     StopsInSection which used parts place × (after ≡ []) × at_end
-ComesTo which limit used after parts at_end stop.TooLong =
-    (place : ℕ) × StopsInSection which used parts place × (length used ≡ limit)
+ComesTo which limit used after parts at_end (stop.TooLong place) =
+    StopsInSection which used parts place × (length used ≡ limit)
 ComesTo which limit used after parts at_end (stop.Bad broken) =
     read_of which (used ++ take (limit - length used) after)
     ≡ record { items = parts; place = Broken broken }
 ComesTo which limit used after parts at_end stop.NoMemory =
     (place : ℕ) × StopsInSection which used parts place
 ComesTo which limit used after parts at_end (stop.Keep why) =
-    (more : ℕ) × (more ≤ limit - length used)
-    × ((read_of which (used ++ take more after)).items ≡ parts)
+    (more : ℕ) × (more ≤ limit - length used) × GivesParts which (used ++ take more after) parts
+    × IsBytes (used ++ take more after)
+
+-- the batches of the first of some objects, of which the last waits and is not among these; or those
+-- of all of them, where the section has ended
+abbrev pub AreTried : Type 0 → List Object → List (List Object) → Type 0
+AreTried ended objects batches =
+    ((front : List Object) × (rest : List Object) × (waiting : List Object)
+    × (objects ≡ front ++ rest) × IsOpenCut front batches waiting)
+    ⊎ (ended × IsCut objects batches)
 
 -- what was made of objects where a section stops: they are put but for the batch that more may
--- join; or the first of them joined, and at a put of these a call was refused
+-- join; or at a put of these batches a call was refused
 abbrev pub PutsUpTo : {K : Type 0} → (K → List Item → Type 0) → (K → Rid → Held) → Rid → ℕ → ℕ
-    → K → K → List Object → SectionStop → Type 0
-PutsUpTo made held rid caller end old new objects (stop.Keep why) =
-    (front : List Object) × (rest : List Object) × (objects ≡ front ++ rest)
-    × (batches : List (List Object)) × IsFrontCut front batches
+    → K → K → Type 0 → List Object → SectionStop → Type 0
+PutsUpTo made held rid caller end old new ended objects (stop.Keep why) =
+    (batches : List (List Object)) × AreTried ended objects batches
     × StopsIn made rid caller end old new (puts_of rid caller batches) why
-PutsUpTo made held rid caller end old new objects other =
+PutsUpTo made held rid caller end old new ended objects other =
     (waiting : List Object) × PutsSome made held rid caller old new objects waiting
 
 -- a section of at most so many bytes is read and its objects are put
@@ -173,6 +191,7 @@ pub record PutsSection {K : Type 0} (made : K → List Item → Type 0) (held : 
   pub parts : List Part
   pub uses : Uses left left' before bytes after
   pub within : length bytes ≤ limit
+  pub fits : IsBytes bytes
   pub ends : ReadsToEnd which bytes parts
   pub puts : PutsAllOf made held rid caller old new (objects_among parts)
   pub head : section.head ≡ head_of parts
@@ -186,8 +205,10 @@ pub record StopsSection {K : Type 0} (made : K → List Item → Type 0) (held :
   pub parts : List Part
   pub uses : Uses left left' before used after
   pub within : length used ≤ limit
+  pub fits : IsBytes used
   pub comes : ComesTo which limit used after parts at_end why
-  pub puts : PutsUpTo made held rid caller end old new (objects_among parts) why
+  pub puts : PutsUpTo made held rid caller end old new (ReadsToEnd which used parts)
+      (objects_among parts) why
 
 -- a section is not put, by a keep of these constants and these ends
 abbrev pub StopsReading : {K : Type 0} → (K → List Item → Type 0) → (K → Rid → Held)

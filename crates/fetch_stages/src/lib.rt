@@ -2,10 +2,16 @@
 #![tactic(auto)]
 
 mod batcher;
+mod bundle_sections;
+mod bundle_stop;
+mod bundle_verdict;
+mod import;
 mod input;
 mod job_end;
 mod laws;
+mod next_section;
 mod piece;
+mod repository;
 mod section;
 mod section_stop;
 mod taken;
@@ -13,6 +19,7 @@ mod taken;
 mod tests;
 
 pub use batcher::Batcher;
+pub use import::import_job;
 pub use input::{Input, piece_buffer};
 pub use job_end::{ImportEnd, JobEnd};
 pub use laws::{fronts_are_put_first, one_cut};

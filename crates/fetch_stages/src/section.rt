@@ -68,5 +68,5 @@ pub fn put_section<S: Source, K: Keep>(
             });
         }
     }
-    Err(SectionStop::TooLong)
+    Err(SectionStop::TooLong(reader.place()))
 }

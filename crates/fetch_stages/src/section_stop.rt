@@ -10,8 +10,8 @@ pub enum SectionStop {
     ReadFault,
     /// The input ends inside the unit that begins at this place, or before it.
     Ends(u64),
-    /// It is longer than the limit.
-    TooLong,
+    /// The limit stands inside the unit that begins at this place, or before it.
+    TooLong(u64),
     /// A unit is broken.
     Bad(Break),
     /// Memory for its bytes was refused.

@@ -131,7 +131,7 @@ fn rows() -> [Row<'static>; 8] {
     };
     let long = Row {
         limit: 18,
-        ..ending(Err(SectionStop::TooLong))
+        ..ending(Err(SectionStop::TooLong(15)))
     };
     let shown = Break {
         place: 9,

@@ -3,7 +3,7 @@ use Rattle.std.proofs.lemmas.Result.{err_from_is_err_and}
 use Rattle.fetch_wire.specs.declared.part.Part.{Part}
 use Rattle.repo_entries.specs.Batches.{AreContents}
 use Rattle.fetch_stages.specs.Sections.{objects_among}
-use Rattle.fetch_stages.proofs.Contents.{bytes_front, contents_before_break, broken_at, contents_fed, fed_broken, items_before_break, items_so_far}
+use Rattle.fetch_stages.proofs.Contents.{bytes_front, contents_before_break, broken_at, contents_fed, fed_broken, gives_before_break, gives_so_far}
 use Rattle.fetch_stages.proofs.piece.put_piece.Goals as goal
 
 pub take_parts-requires-clause-sizes : goal.take_parts-requires-clause-sizes
@@ -21,7 +21,7 @@ returns-in_err-take_parts-in-Ok-clause-puts g c which fed parts h =
       c.in-Ok.fed.parts,
       c.in-Ok.fed.used,
       was.1,
-      items_so_far which (fed ++ take c.in-Ok.fed.used c.args.piece.now) (parts ++ c.in-Ok.fed.parts) c.feed.new.self was.0,
+      gives_so_far which (fed ++ take c.in-Ok.fed.used c.args.piece.now) (parts ++ c.in-Ok.fed.parts) c.feed.new.self was.0,
       c.in_err-take_parts-in-Ok.ensures.stops,
     )
 
@@ -45,7 +45,7 @@ returns-in_err-take_parts-in-Err-Bad-clause-puts g c which fed parts h =
       c.take_before-parts.result,
       length piece,
       omega arith,
-      items_before_break which fed piece parts _ c.take_before-parts.result c.in-Err-Bad.broken c.take_before-parts.ensures.parts was,
+      gives_before_break which fed piece parts _ c.take_before-parts.result c.in-Err-Bad.broken c.take_before-parts.ensures.parts was,
       c.in_err-take_parts-in-Err-Bad.ensures.stops,
     )
 

@@ -46,8 +46,8 @@ returns-then-is_empty-clause-stops g c =
 pub returns-clause-stops : goal.returns-clause-stops
 returns-clause-stops g c =
     let h = c.reading.invariant in
-    stops_now h.used (g.K.Keep.end c.reading.keep) (IsAtEnd (g.S.Source.left c.reading.input.0)) stop.TooLong
-    ((unit_of c.reading.reader).place, inside h.used h.going, (let count = h.used.count in omega (arith, count, c.reading-test.false))) (λ objects x. x)
+    rw c.place-2.ensures (stops_now h.used (g.K.Keep.end c.reading.keep) (IsAtEnd (g.S.Source.left c.reading.input.0))
+    (stop.TooLong (unit_of c.reading.reader).place) (inside h.used h.going, (let count = h.used.count in omega (arith, count, c.reading-test.false))) (λ objects x. x))
 
 pub returns-in_err-used-clause-stops : goal.returns-in_err-used-clause-stops
 returns-in_err-used-clause-stops g c =
@@ -64,7 +64,8 @@ returns-in_err-used-clause-stops g c =
     rw (p.1, p.2)
     (stops_at_piece f c.put_piece.new.keep (keep.end c.put_piece.new.keep) (IsAtEnd source) piece
     c.put_piece.new.reader c.put_piece.new.taken c.in_err-used.field-0.0 h.going
-    (piece_is c.rest-rest.result.now c.fill.new.self.1 c.min-most.result c.reading.left c.rest-rest.ensures c.min-most.ensures) was)
+    (piece_is c.rest-rest.result.now c.fill.new.self.1 c.min-most.result c.reading.left c.rest-rest.ensures c.min-most.ensures)
+    c.in_err-used.ensures.bytes was)
 
 pub returns-in_err-used-clause-failed : goal.returns-in_err-used-clause-failed
 returns-in_err-used-clause-failed g c =
@@ -117,7 +118,8 @@ returns-in_err-finish-clause-stops g c =
     c.finish.new.keep c.put_piece.new.taken.batcher c.in_err-finish.field-0.0)
     (same_caller _ _ (c.in_ok-used.ensures.leaves.constants_stay ∙ h.leaves.constants_stay)) c.in_err-finish.ensures.stops in
     rw (p.1, p.2, c.used.ensures.rest, source_is)
-    (stops_last_put u c.finish.new.keep (keep.end c.finish.new.keep) (IsAtEnd source) c.in_err-finish.field-0.0 stops)
+    (stops_last_put u c.finish.new.keep (keep.end c.finish.new.keep) (IsAtEnd source) c.in_err-finish.field-0.0
+    (sym was.3 ∙ c.if-used.true) stops)
 
 pub returns-then-used-clause-puts : goal.returns-then-used-clause-puts
 returns-then-used-clause-puts g c =
