@@ -1,0 +1,5 @@
+use Rattle.store_keep.proofs.Imaging.{opened_made}
+use Rattle.store_keep.proofs.laws.opened_stores_are_made.Goals as goal
+
+pub returns : goal.returns
+returns g c = opened_made g.D.Disk.reads_as g.D.Disk.images
