@@ -1,0 +1,4 @@
+pub mod Adding
+pub mod Heading
+pub mod Pairs
+pub mod Showing
