@@ -1,5 +1,5 @@
 -- The import of a bundle, by its name, its sections and its verdict.
-use Rattle.std.proofs.Common.{◌≡◌, ◌<◌, ◌+◌, ◌^◌, ℕ, List, [], ◌∷◌, ◌++◌, Bool, if◌then◌else◌, Option, length, inl, inr, refl, sym, ap, ◌∙◌, subst, arith, append_assoc}
+use Rattle.std.proofs.Common.{◌≡◌, ◌⊎◌, ◌<◌, ◌+◌, ◌^◌, ℕ, List, [], ◌∷◌, ◌++◌, Bool, if◌then◌else◌, Option, length, inl, inr, refl, sym, ap, ◌∙◌, subst, arith, append_assoc}
 use Rattle.std.specs.Prelude.{IsTrue, Result, Ok, Err}
 use Rattle.std.specs.Io.KnownBytes.{IsAtEnd}
 use Rattle.std.proofs.lemmas.List.{append-nil, length-append}
@@ -17,7 +17,7 @@ use Rattle.repo_slice.specs.declared.keep_fault.KeepFault.TheVariants as fault
 use Rattle.repo_slice.specs.declared.verdict.Judged.{Judged}
 use Rattle.fetch_wire.specs.Judging.{further}
 use Rattle.fetch_stages.specs.BundleJobs.{Enters, FinishesBy, HasStopCause, IsBadAt, PutsJob, StopsJob, StopsJudging, end_of}
-use Rattle.fetch_stages.specs.Imports.{Bad, Came, EndsBy, Imports, IsEndOf, IsImportCause, IsNamedBy, IsWhole, KeepsUnnamed, Verdict, came_of, setting_of}
+use Rattle.fetch_stages.specs.Imports.{Bad, Came, EndsBy, Imports, Inside, IsEndOf, IsImportCause, IsNamedBy, IsWhole, KeepsUnnamed, Verdict, came_of, setting_of}
 use Rattle.fetch_stages.specs.Jobs.{IsJob, JobStop, Reaches, Runs}
 use Rattle.fetch_stages.specs.Pieces.{Fills, Uses}
 use Rattle.fetch_stages.specs.declared.bundle_stop.BundleStop.{BundleStop}
@@ -63,10 +63,10 @@ module _ {K : Type 0} (made : K → List Item → Type 0) (constants : Constants
     others = others;
   }
 
-came_bad : (rid : Rid) (count place size limit : ℕ) (found : JobStop) → IsBadAt place size limit found
-    → came_of rid count found ≡ Bad (further 20 place)
-came_bad rid count place size limit found (inl x) = ap (λ (f : JobStop). came_of rid count f) x.0
-came_bad rid count place size limit found (inr x) = ap (λ (f : JobStop). came_of rid count f) x.1
+came_bad : (rid : Rid) (count place size limit : ℕ) (at_end : Type 0) (found : JobStop) → IsBadAt place size limit at_end found
+    → (came_of rid count found ≡ Bad (further 20 place)) ⊎ ((came_of rid count found ≡ Inside (further 20 place)) × at_end)
+came_bad rid count place size limit at_end found (inl x) = inr (ap (λ (f : JobStop). came_of rid count f) x.0, x.2)
+came_bad rid count place size limit at_end found (inr x) = inl (ap (λ (f : JobStop). came_of rid count f) x.1)
 
 -- a job whose sections are not all put
 pub imports_stopped : {K : Type 0} (made : K → List Item → Type 0) (constants : Constants) (end : ℕ) (held : K → Rid → Held) (rid : Rid)
@@ -81,7 +81,7 @@ imports_stopped made constants end held rid a c l l' l'' between stop.ReadFault 
 imports_stopped made constants end held rid a c l l' l'' between (stop.Bad place) result name u j others e =
     rw e (imports_by made constants end held rid a c l l'' name (import.InputBad (further 20 place)) j.bytes j.unread j.entries j.found
     (uses_along l l' l'' [] rid.0.0 between j.bytes j.unread u j.uses) j.job (λ h. j.ends.2)
-    (came_bad rid (length (rid.0.0 ++ j.bytes)) place (length j.bytes) (2 ^ 30) j.found j.ends.1, j.ends.0) tt
+    (came_bad rid (length (rid.0.0 ++ j.bytes)) place (length j.bytes) (2 ^ 30) (IsAtEnd l'') j.found j.ends.1, j.ends.0) tt
     (others (rid.0.0 ++ j.bytes) (named rid j.bytes name)))
 imports_stopped made constants end held rid a c l l' l'' between stop.TooLong result name u j others e =
     rw e (imports_by made constants end held rid a c l l'' name (import.Ended rid job.TooLong) j.bytes j.unread j.entries j.found
@@ -212,14 +212,14 @@ module _ {K : Type 0} (made : K → List Item → Type 0) (constants : Constants
       (p.entries ++ item_of rid constants.caller x.0 ∷ []) (Reaches p.on x.0 place)
       (subst (λ (k : List ℕ). Uses l l''' [] k []) all (uses_all l l''' [] (rid.0.0 ++ p.bytes) rest all_used))
       (p.runs rest (item_of rid constants.caller x.0 ∷ []) (Reaches p.on x.0 place) (judges x.0 x.1)) (λ h. refl)
-      (came_behind rid (length (rid.0.0 ++ (p.bytes ++ rest))) place p.on x.0 more ∙ ap (λ (n : ℕ). Bad n) (sym x.2), all_made x.0 x.1)
+      (inl (came_behind rid (length (rid.0.0 ++ (p.bytes ++ rest))) place p.on x.0 more ∙ ap (λ (n : ℕ). Bad n) (sym x.2)), all_made x.0 x.1)
       tt (others (rid.0.0 ++ (p.bytes ++ rest)) (named rid (p.bytes ++ rest) name))
   imports_finished import.NoMemory x = absurd x
 
 -- bytes that are no name
 pub imports_unnamed : {K : Type 0} (made : K → List Item → Type 0) (constants : Constants) (end : ℕ) (held : K → Rid → Held) (k : K)
     (l l' : Option (List ℕ)) (used unread : List ℕ) (result : ImportEnd) → Uses l l' [] used unread → length used < 20
-    → (IsWhole result → unread ≡ []) → EndsBy made constants end k k (held k) (IsAtEnd l') [] (Bad 0) result
+    → (IsWhole result → unread ≡ []) → EndsBy made constants end k k (held k) (IsAtEnd l') [] (Inside 0) result
     → IsEndOf used result → Imports made constants end (held k) (held k) k k l l' result
 imports_unnamed made constants end held k l l' used unread result u few whole ends is = record {
   taken = u.taken;
@@ -229,7 +229,7 @@ imports_unnamed made constants end held k l l' used unread result u few whole en
   text = u.text;
   whole = whole;
   entries = [];
-  came = Bad 0;
+  came = Inside 0;
   job = inl (few, refl, refl);
   ends = ends;
   named = is;

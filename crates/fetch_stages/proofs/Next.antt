@@ -1,6 +1,7 @@
 -- A section of a bundle, by what reading a section comes to.
 use Rattle.std.proofs.Common.{◌≡◌, ◌⊎◌, ◌≤◌, ◌<◌, ◌+◌, ◌-◌, ℕ, suc, List, [], ◌∷◌, ◌++◌, Bool, true, false, if◌then◌else◌, Option, inl, inr, length, take, drop, refl, sym, ap, ◌∙◌, subst, arith}
 use Rattle.std.proofs.lemmas.List.{append-nil, length-append, length-take, map-append, take_all}
+use Rattle.std.specs.Io.KnownBytes.{IsAtEnd}
 use Rattle.hex.specs.Hex.{IsBytes}
 use Rattle.rad_base.proofs.Conditions.{differ}
 use Rattle.rad_base.specs.declared.names.Rid.{Rid}
@@ -206,8 +207,8 @@ module _ {K : Type 0} (made : K → List Item → Type 0) (held : K → Rid → 
         );
       }
 
-  stops_ended : (unit : ℕ) → Stops (stops.Ends unit) → Next (stop.Bad (further place unit))
-  stops_ended unit t =
+  stops_ended : (unit : ℕ) → (at_end → IsAtEnd l'') → Stops (stops.Ends unit) → Next (stop.Bad (further place unit))
+  stops_ended unit ended t =
       let p = t.puts.1 in
       record {
         bytes = t.used;
@@ -219,7 +220,7 @@ module _ {K : Type 0} (made : K → List Item → Type 0) (held : K → Rid → 
           early_here t.used after t.parts (EndsIn (further place unit)) p.batches t.puts.0 t.uses t.within
               (unit, t.comes.0, refl) p.cut,
           p.puts.entered,
-          inl (refl, t.within),
+          inl (refl, t.within, ended t.comes.2),
           refl,
         );
       }
@@ -350,7 +351,7 @@ module _ {K : Type 0} (made : K → List Item → Type 0) (held : K → Rid → 
   -- the limit stands inside a unit
   stops_long : (unit : ℕ) (input : Type 0) (why : BundleStop) → Fills l'' l''' after final
       → StopsSection made held rid constants.caller end a b which limit l' l'' filled after at_end (stops.TooLong unit)
-      → IsPastLimit input (further place unit) final why → NextNow why
+      → IsPastLimit input (IsAtEnd l''') (further place unit) final why → NextNow why
   stops_long unit input stop.ReadFault g t is =
       let p = t.puts.1 in
       record {
@@ -378,7 +379,7 @@ module _ {K : Type 0} (made : K → List Item → Type 0) (held : K → Rid → 
           early_here made held constants rid end a b which place limit l l' l'' before filled after at_end f some bars t.used after
               t.parts (EndsIn (further place unit)) p.batches t.puts.0 t.uses t.within (unit, t.comes.0, refl) p.cut,
           p.puts.entered,
-          inl (ap (λ (n : ℕ). EndsIn n) (sym is.0), t.within),
+          inl (ap (λ (n : ℕ). EndsIn n) (sym is.0), t.within, is.2),
           refl,
         );
       }
@@ -411,23 +412,23 @@ module _ {K : Type 0} (made : K → List Item → Type 0) (held : K → Rid → 
   stops_long unit input (stop.Keep why) g t is = absurd is
 
   -- a section stops, and so the job does
-  pub stops_next : (input : Type 0) (why : SectionStop) (stopped : BundleStop) → Fills l'' l''' after final
+  pub stops_next : (input : Type 0) (why : SectionStop) (stopped : BundleStop) → (at_end → IsAtEnd l'') → Fills l'' l''' after final
       → StopsSection made held rid constants.caller end a b which limit l' l'' filled after at_end why
-      → IsUntouched ((l''' ≡ l'') × (final ≡ after)) why → IsStopAt input place final why stopped
+      → IsUntouched ((l''' ≡ l'') × (final ≡ after)) why → IsStopAt input (IsAtEnd l''') place final why stopped
       → StopsNext made (setting_of constants rid) end a b which place limit l l''' before stopped
-  stops_next input stops.ReadFault stopped g t same is =
+  stops_next input stops.ReadFault stopped ended g t same is =
       rw is (same_left stop.ReadFault same.0 (stops_read made held constants rid end a b which place limit l l' l'' before filled after at_end f some bars t))
-  stops_next input (stops.Ends unit) stopped g t same is =
+  stops_next input (stops.Ends unit) stopped ended g t same is =
       rw is (same_left (stop.Bad (further place unit)) same.0
-      (stops_ended made held constants rid end a b which place limit l l' l'' before filled after at_end f some bars unit t))
-  stops_next input (stops.TooLong unit) stopped g t same is = stops_long unit input stopped g t is
-  stops_next input (stops.Bad broken) stopped g t same is =
+      (stops_ended made held constants rid end a b which place limit l l' l'' before filled after at_end f some bars unit ended t))
+  stops_next input (stops.TooLong unit) stopped ended g t same is = stops_long unit input stopped g t is
+  stops_next input (stops.Bad broken) stopped ended g t same is =
       rw is (same_left (stop.Bad (further place broken.place)) same.0
       (stops_broken made held constants rid end a b which place limit l l' l'' before filled after at_end f some bars broken t))
-  stops_next input stops.NoMemory stopped g t same is =
+  stops_next input stops.NoMemory stopped ended g t same is =
       rw is (same_left (stop.Keep fault.NoMemory) same.0
       (stops_memory made held constants rid end a b which place limit l l' l'' before filled after at_end f some bars t))
-  stops_next input (stops.Keep why) stopped g t same is =
+  stops_next input (stops.Keep why) stopped ended g t same is =
       rw is (same_left (stop.Keep why) same.0
       (stops_kept made held constants rid end a b which place limit l l' l'' before filled after at_end f some bars why t))
 
@@ -464,7 +465,7 @@ fills_used l l' before filled f =
 -- no section begins
 pub stops_at_start : {K : Type 0} (made : K → List Item → Type 0) (constants : Constants) (rid : Rid) (end : ℕ) (k : K)
     (which : Which) (place limit : ℕ) (l l' : Option (List ℕ)) (before filled : List ℕ) (input : Type 0) (why : BundleStop)
-    → place ≤ 1073741824 → Fills l l' before filled → IsNoSection input place limit filled why
+    → place ≤ 1073741824 → Fills l l' before filled → IsNoSection input (IsAtEnd l') place limit filled why
     → StopsNext made (setting_of constants rid) end k k which place limit l l' before why
 stops_at_start made constants rid end k which place limit l l' before filled input stop.ReadFault few f is = record {
   bytes = [];
@@ -477,7 +478,7 @@ stops_at_start made constants rid end k which place limit l l' before filled inp
       | inl none ↦ record {
         bytes = [];
         unread = [];
-        uses = subst (λ (x : List ℕ). Uses l l' before [] x) none (fills_uses l l' before filled f);
+        uses = subst (λ (x : List ℕ). Uses l l' before [] x) none.0 (fills_uses l l' before filled f);
         stops = (
           [],
           EndsIn (further place 0),
@@ -486,6 +487,7 @@ stops_at_start made constants rid end k which place limit l l' before filled inp
           inl (
             ap (λ (n : ℕ). EndsIn n) (let at = is.0 in let e : further place 0 ≡ begins = omega (arith, few, at) in e),
             omega arith,
+            none.1,
           ),
           refl,
         );

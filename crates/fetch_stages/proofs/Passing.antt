@@ -215,7 +215,7 @@ module _ {K : Type 0} (made : K → List Item → Type 0) (held : K → Rid → 
             | inl x ↦
               let few = x.1 in
               let all : length (p.bytes ++ n.bytes) ≤ 2 ^ 30 = omega (arith, size, count, few, within) in
-              inl (limited_few (length (p.bytes ++ n.bytes)) begins found x.0 all, all)
+              inl (limited_few (length (p.bytes ++ n.bytes)) begins found x.0 all, all, x.2)
             | inr x ↦ inr (x.0, ap (λ (f : JobStop). limited (length (p.bytes ++ n.bytes)) f) x.1)
           ],
           n.stops.5,

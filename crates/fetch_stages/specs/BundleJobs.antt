@@ -1,5 +1,6 @@
 -- The steps of the job of a bundle.
 use Rattle.std.specs.Prelude.{◌≡◌, ◌⊎◌, ℕ, ◌+◌, ◌≤◌, ◌<◌, ◌^◌, List, [], ◌∷◌, ◌++◌, length, take, Option, None, Some, Result, Ok, Err}
+use Rattle.std.specs.Io.KnownBytes.{IsAtEnd}
 use Rattle.rad_base.specs.Sizes.{IsOid}
 use Rattle.rad_base.specs.declared.names.Rid.{Rid}
 use Rattle.rad_base.specs.declared.offer.Offer.{Offer}
@@ -36,7 +37,7 @@ use Rattle.fetch_stages.specs.declared.section_stop.SectionStop.TheVariants as s
 abbrev pub ReadsName : Option (List ℕ) → Option (List ℕ) → List ℕ → List ℕ → Result (Option Rid) Failed → Type 0
 ReadsName left left' before after (Ok (Some rid)) = IsOid rid.0 × Uses left left' before rid.0.0 after
 ReadsName left left' before after (Ok None) =
-    (used : List ℕ) × Uses left left' before used [] × (length used < 20) × (after ≡ [])
+    (used : List ℕ) × Uses left left' before used [] × (length used < 20) × (after ≡ []) × IsAtEnd left'
 ReadsName left left' before after (Err why) =
     (used : List ℕ) × Uses left left' before used after × (length used < 20)
 
@@ -63,26 +64,26 @@ pub record IsWholeSection (s : Setting) (which : Which) (bytes : List ℕ) (entr
   pub cut : IsCut objects batches
   pub made : entries ≡ puts_of s.rid s.constants.caller batches
 
--- the unit at a place is broken, or so many bytes end inside it within the limit
-abbrev pub IsBadAt : ℕ → ℕ → ℕ → JobStop → Type 0
-IsBadAt place count limit found =
-    ((found ≡ EndsIn place) × (count ≤ limit)) ⊎ ((shown : ℕ) × (found ≡ Breaks place shown))
+-- the unit at a place is broken, or so many bytes end inside it within the limit, and no more follow
+abbrev pub IsBadAt : ℕ → ℕ → ℕ → Type 0 → JobStop → Type 0
+IsBadAt place count limit at_end found =
+    ((found ≡ EndsIn place) × (count ≤ limit) × at_end) ⊎ ((shown : ℕ) × (found ≡ Breaks place shown))
 
 -- Why a section of a bundle stops that begins at a place, of which these bytes were read and these not.
 abbrev pub StopsNextBy : {K : Type 0} → (K → List Item → Type 0) → Setting → ℕ → K → K → Which → ℕ
-    → ℕ → List ℕ → List ℕ → BundleStop → Type 0
-StopsNextBy made s end old new which place limit bytes unread stop.ReadFault =
+    → ℕ → Type 0 → List ℕ → List ℕ → BundleStop → Type 0
+StopsNextBy made s end old new which place limit at_end bytes unread stop.ReadFault =
     (entries : List Item) × (begins : ℕ)
     × StopsEarly s which place (take limit bytes) entries (EndsIn begins) × Makes made old new entries
-StopsNextBy made s end old new which place limit bytes unread (stop.Bad begins) =
+StopsNextBy made s end old new which place limit at_end bytes unread (stop.Bad begins) =
     (entries : List Item) × (found : JobStop)
     × StopsEarly s which place (take limit bytes) entries found × Makes made old new entries
-    × IsBadAt begins (length bytes) limit found × (unread ≡ [])
-StopsNextBy made s end old new which place limit bytes unread stop.TooLong =
+    × IsBadAt begins (length bytes) limit at_end found × (unread ≡ [])
+StopsNextBy made s end old new which place limit at_end bytes unread stop.TooLong =
     (entries : List Item) × (begins : ℕ)
     × StopsEarly s which place (take limit bytes) entries (EndsIn begins) × Makes made old new entries
     × (limit < length bytes) × (unread ≡ [])
-StopsNextBy made s end old new which place limit bytes unread (stop.Keep why) =
+StopsNextBy made s end old new which place limit at_end bytes unread (stop.Keep why) =
     (entries : List Item)
     × (((found : JobStop) × StopsEarly s which place (take limit bytes) entries found)
     ⊎ IsWholeSection s which (take limit bytes) entries)
@@ -94,7 +95,7 @@ pub record StopsNext {K : Type 0} (made : K → List Item → Type 0) (s : Setti
   pub bytes : List ℕ
   pub unread : List ℕ
   pub uses : Uses left left' before bytes unread
-  pub stops : StopsNextBy made s end old new which place limit bytes unread why
+  pub stops : StopsNextBy made s end old new which place limit (IsAtEnd left') bytes unread why
 
 -- a fault is answered only where its cause is there
 abbrev pub HasStopCause : Type 0 → ℕ → ℕ → Option ObjectMap → BundleStop → Type 0
@@ -104,14 +105,14 @@ HasStopCause input before now objects stop.TooLong = Unit {0}
 HasStopCause input before now objects (stop.Keep why) = IsKeepCause objects before now why × IsNoChange why
 
 -- what the stop of a job is, and what was made of its entries
-abbrev pub StopsJobBy : {K : Type 0} → (K → List Item → Type 0) → Setting → ℕ → K → K → List ℕ → List ℕ → List Item
+abbrev pub StopsJobBy : {K : Type 0} → (K → List Item → Type 0) → Setting → ℕ → K → K → Type 0 → List ℕ → List ℕ → List Item
     → JobStop → BundleStop → Type 0
-StopsJobBy made s end old new bytes unread entries found stop.ReadFault = Makes made old new entries
-StopsJobBy made s end old new bytes unread entries found (stop.Bad place) =
-    Makes made old new entries × IsBadAt place (length bytes) (2 ^ 30) found × (unread ≡ [])
-StopsJobBy made s end old new bytes unread entries found stop.TooLong =
+StopsJobBy made s end old new at_end bytes unread entries found stop.ReadFault = Makes made old new entries
+StopsJobBy made s end old new at_end bytes unread entries found (stop.Bad place) =
+    Makes made old new entries × IsBadAt place (length bytes) (2 ^ 30) at_end found × (unread ≡ [])
+StopsJobBy made s end old new at_end bytes unread entries found stop.TooLong =
     Makes made old new entries × (found ≡ TooLong) × (unread ≡ [])
-StopsJobBy made s end old new bytes unread entries found (stop.Keep why) =
+StopsJobBy made s end old new at_end bytes unread entries found (stop.Keep why) =
     StopsIn made s.rid s.constants.caller end old new entries why
 
 -- the sections of a job are not all put
@@ -123,7 +124,7 @@ pub record StopsJob {K : Type 0} (made : K → List Item → Type 0) (s : Settin
   pub entries : List Item
   pub found : JobStop
   pub job : IsJob s start bytes entries found
-  pub ends : StopsJobBy made s end old new bytes unread entries found why
+  pub ends : StopsJobBy made s end old new (IsAtEnd left') bytes unread entries found why
 
 -- the sections of a job are put, which have so many bytes, and what is offered is judged next
 pub record PutsJob {K : Type 0} (made : K → List Item → Type 0) (held : K → Rid → Held) (s : Setting) (start : Held)
@@ -186,19 +187,19 @@ end_of rid stop.TooLong = import.Ended rid job.TooLong
 end_of rid (stop.Keep why) = import.Ended rid (end_at why)
 
 -- why no section begins at a place, where so many bytes are within the limit and these wait
-abbrev pub IsNoSection : Type 0 → ℕ → ℕ → List ℕ → BundleStop → Type 0
-IsNoSection input place limit rest stop.ReadFault = input
-IsNoSection input place limit rest (stop.Bad begins) =
-    (begins ≡ place) × ((rest ≡ []) ⊎ (BeginsRefusal rest × (0 < limit)))
-IsNoSection input place limit rest stop.TooLong = (limit ≡ 0) × (0 < length rest)
-IsNoSection input place limit rest (stop.Keep why) = ⊥
+abbrev pub IsNoSection : Type 0 → Type 0 → ℕ → ℕ → List ℕ → BundleStop → Type 0
+IsNoSection input at_end place limit rest stop.ReadFault = input
+IsNoSection input at_end place limit rest (stop.Bad begins) =
+    (begins ≡ place) × (((rest ≡ []) × at_end) ⊎ (BeginsRefusal rest × (0 < limit)))
+IsNoSection input at_end place limit rest stop.TooLong = (limit ≡ 0) × (0 < length rest)
+IsNoSection input at_end place limit rest (stop.Keep why) = ⊥
 
 -- where the limit stands inside the unit of a place, the job is too long if more bytes wait
-abbrev pub IsPastLimit : Type 0 → ℕ → List ℕ → BundleStop → Type 0
-IsPastLimit input place rest stop.ReadFault = input
-IsPastLimit input place rest (stop.Bad begins) = (begins ≡ place) × (rest ≡ [])
-IsPastLimit input place rest stop.TooLong = 0 < length rest
-IsPastLimit input place rest (stop.Keep why) = ⊥
+abbrev pub IsPastLimit : Type 0 → Type 0 → ℕ → List ℕ → BundleStop → Type 0
+IsPastLimit input at_end place rest stop.ReadFault = input
+IsPastLimit input at_end place rest (stop.Bad begins) = (begins ≡ place) × (rest ≡ []) × at_end
+IsPastLimit input at_end place rest stop.TooLong = 0 < length rest
+IsPastLimit input at_end place rest (stop.Keep why) = ⊥
 
 -- nothing is done at the stop of a section, but where the limit stands inside it
 abbrev pub IsUntouched : Type 0 → SectionStop → Type 0
@@ -210,13 +211,13 @@ IsUntouched Same stops.NoMemory = Same
 IsUntouched Same (stops.Keep refused) = Same
 
 -- what the stop of a section that begins at a place makes of its job, where these bytes wait
-abbrev pub IsStopAt : Type 0 → ℕ → List ℕ → SectionStop → BundleStop → Type 0
-IsStopAt input place rest stops.ReadFault why = why ≡ stop.ReadFault
-IsStopAt input place rest (stops.Ends unit) why = why ≡ stop.Bad (further place unit)
-IsStopAt input place rest (stops.TooLong unit) why = IsPastLimit input (further place unit) rest why
-IsStopAt input place rest (stops.Bad broken) why = why ≡ stop.Bad (further place broken.place)
-IsStopAt input place rest stops.NoMemory why = why ≡ stop.Keep fault.NoMemory
-IsStopAt input place rest (stops.Keep refused) why = why ≡ stop.Keep refused
+abbrev pub IsStopAt : Type 0 → Type 0 → ℕ → List ℕ → SectionStop → BundleStop → Type 0
+IsStopAt input at_end place rest stops.ReadFault why = why ≡ stop.ReadFault
+IsStopAt input at_end place rest (stops.Ends unit) why = why ≡ stop.Bad (further place unit)
+IsStopAt input at_end place rest (stops.TooLong unit) why = IsPastLimit input at_end (further place unit) rest why
+IsStopAt input at_end place rest (stops.Bad broken) why = why ≡ stop.Bad (further place broken.place)
+IsStopAt input at_end place rest stops.NoMemory why = why ≡ stop.Keep fault.NoMemory
+IsStopAt input at_end place rest (stops.Keep refused) why = why ≡ stop.Keep refused
 
 -- what the end of a job is that was installed: the head of what is held, or why none was told
 abbrev pub EndsDone : {K : Type 0} → (K → List Item → Type 0) → (K → Constants) → (K → ℕ) → (K → Rid → Held) → Rid

@@ -18,11 +18,12 @@ use Rattle.fetch_stages.specs.declared.job_end.ImportEnd.{ImportEnd}
 use Rattle.fetch_stages.specs.declared.job_end.ImportEnd.TheVariants as import
 use Rattle.fetch_stages.specs.declared.job_end.JobEnd.TheVariants as job
 
--- Where an import stops by its bytes: at the unit at a place, or where the bundle has ended and
--- bytes follow; at the verdict on a repository's offer, on what is held then, or behind its last
--- section where no verdict is said; past the limit of a job's sections.
+-- Where an import stops by its bytes: at the broken unit at a place, or where the bundle has ended and
+-- bytes follow; inside the unit at a place; at the verdict on a repository's offer, on what is held
+-- then, or behind its last section where no verdict is said; past the limit of a job's sections.
 pub data Came : Type 0 where
   Bad : ℕ → Came
+  Inside : ℕ → Came
   Verdict : Rid → Held → Result Judged Whole → Came
   Unjudged : Rid → Came
   Long : Rid → Came
@@ -34,7 +35,7 @@ came_of rid count (Reaches held verdict place) =
 came_of rid count (Passed place) = Unjudged rid
 came_of rid count (NotServed code shown) = Bad (further 20 shown)
 came_of rid count (Breaks place shown) = Bad (further 20 place)
-came_of rid count (EndsIn place) = Bad (further 20 place)
+came_of rid count (EndsIn place) = Inside (further 20 place)
 came_of rid count TooLong = Long rid
 
 -- the setting of a bundle's job
@@ -58,7 +59,7 @@ pub record HasJob (constants : Constants) (held : Rid → Held) (bytes : List �
 -- the job of a bundle's bytes
 abbrev pub IsBundleJob : Constants → (Rid → Held) → List ℕ → List Item → Came → Type 0
 IsBundleJob constants held bytes entries came =
-    ((length bytes < 20) × (entries ≡ []) × (came ≡ Bad 0)) ⊎ HasJob constants held bytes entries came
+    ((length bytes < 20) × (entries ≡ []) × (came ≡ Inside 0)) ⊎ HasJob constants held bytes entries came
 
 -- where the objects are told, this is the head
 abbrev pub IsHeadOn : Constants → Held → Head → Type 0
@@ -89,7 +90,7 @@ EndsBy made constants end old new held at_end entries came (import.Ended rid job
     StopsIn made rid constants.caller end old new entries fault.NoMemory
 EndsBy made constants end old new held at_end entries came import.ReadFault = Makes made old new entries
 EndsBy made constants end old new held at_end entries came (import.InputBad place) =
-    (came ≡ Bad place) × Makes made old new entries
+    ((came ≡ Bad place) ⊎ ((came ≡ Inside place) × at_end)) × Makes made old new entries
 EndsBy made constants end old new held at_end entries came import.NoMemory = Makes made old new []
 
 -- the job stopped by its bytes

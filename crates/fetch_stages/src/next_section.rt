@@ -1,5 +1,6 @@
 // A section of a bundle.
 ghost use Rattle.std.specs.Prelude.{◌≡◌, ◌≤◌, ◌-◌, ◌<◌, ◌^◌, length, IfErr, IfOk, IsTrue, OnErr, OnOk};
+ghost use Rattle.std.specs.Io.KnownBytes.{IsAtEnd};
 ghost use Rattle.rad_base.specs.Faults.{Rose};
 ghost use Rattle.repo_slice.specs.Keeps.{LeavesOthers};
 ghost use Rattle.fetch_stages.specs.BundleJobs.{HasStopCause, IsNoSection, IsPastLimit, IsStopAt};
@@ -35,7 +36,7 @@ fn begin_section<S: Source>(input: &mut Input<S>, place: u64) -> Result<(), Bund
     ensures some { OnOk result (0 < length input.new.1) }
     ensures begins { OnOk result (BeginsRefusal input.new.1 → ⊥) }
     ensures stops { IfErr result (IsNoSection (Rose (S.faults input.old.0) (S.faults input.new.0))
-        place (2 ^ 30 - place) input.new.1) }
+        (IsAtEnd (S.left input.new.0)) place (2 ^ 30 - place) input.new.1) }
 {
     if let Err(Failed) = input.fill() {
         return Err(BundleStop::ReadFault);
@@ -54,8 +55,8 @@ fn stop_at<S: Source>(input: &mut Input<S>, place: u64, stop: SectionStop) -> Bu
     ensures fills { Fills (S.left input.old.0) (S.left input.new.0) input.old.1 input.new.1 }
     ensures same { IsUntouched ((S.left input.new.0 ≡ S.left input.old.0)
         × (input.new.1 ≡ input.old.1)) stop }
-    ensures is { IsStopAt (Rose (S.faults input.old.0) (S.faults input.new.0)) place input.new.1
-        stop result }
+    ensures is { IsStopAt (Rose (S.faults input.old.0) (S.faults input.new.0))
+        (IsAtEnd (S.left input.new.0)) place input.new.1 stop result }
 {
     match stop {
         SectionStop::ReadFault => BundleStop::ReadFault,
@@ -71,8 +72,8 @@ fn stop_at<S: Source>(input: &mut Input<S>, place: u64, stop: SectionStop) -> Bu
 fn past_limit<S: Source>(input: &mut Input<S>, place: u64) -> BundleStop
     ensures input { KeepsLoan S.loan S.faults input.old.0 input.new.0 }
     ensures fills { Fills (S.left input.old.0) (S.left input.new.0) input.old.1 input.new.1 }
-    ensures is { IsPastLimit (Rose (S.faults input.old.0) (S.faults input.new.0)) place input.new.1
-        result }
+    ensures is { IsPastLimit (Rose (S.faults input.old.0) (S.faults input.new.0))
+        (IsAtEnd (S.left input.new.0)) place input.new.1 result }
 {
     if let Err(Failed) = input.fill() {
         return BundleStop::ReadFault;

@@ -1,4 +1,4 @@
-use Rattle.std.proofs.Common.{ℕ, List, arith, subst}
+use Rattle.std.proofs.Common.{ℕ, List, [], inr, refl, arith, subst}
 use Rattle.std.specs.Io.KnownBytes.{IsAtEnd}
 use Rattle.rad_base.specs.Faults.{Rose}
 use Rattle.repo_slice.specs.Keeps.{Constants}
@@ -71,3 +71,13 @@ returns-in-Err-put_sections-clause-job g c =
     (λ bytes name. unnamed keep.constants keep.loan keep.faults keep.held rid a b bytes name c.requires.stands
     c.in-Err-put_sections.ensures.leaves)
     c.end_by.ensures
+
+pub returns-in-Ok-None-clause-job : goal.returns-in-Ok-None-clause-job
+returns-in-Ok-None-clause-job g c =
+    let keep = g.K.Keep in
+    let left = g.S.Source.left in
+    let r = rw c.in-Ok-None.field-0-is at c.in-Ok-None.ensures.reads in
+    imports_unnamed keep.made (keep.constants c.args.keep.now) (keep.end c.args.keep.now) keep.held c.args.keep.now
+    (left c.args.input.now.0) (left c.read_name.new.input.0) r.0 [] (import.InputBad 0)
+    (subst (λ (b : List ℕ). Uses (left c.args.input.now.0) (left c.read_name.new.input.0) b r.0 []) c.requires.unread r.1)
+    r.2 (λ h. refl) (inr (refl, r.4), makes_none keep.made c.args.keep.now) tt

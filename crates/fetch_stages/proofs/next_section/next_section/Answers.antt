@@ -38,4 +38,4 @@ returns-in-Err-clause-stops g c =
     (source.left c.stop_at.new.input.0) c.args.input.now.1 c.begin_section.new.input.1 c.put_section.new.input.1
     c.stop_at.new.input.1 (IsAtEnd (source.left c.put_section.new.input.0)) start.fills start.some start.begins
     (Rose (source.faults c.put_section.new.input.0) (source.faults c.stop_at.new.input.0)) c.in-Err.stop c.stop_at.result
-    c.stop_at.ensures.fills c.in-Err.ensures.stops c.stop_at.ensures.same c.stop_at.ensures.is
+    (λ ended. ended) c.stop_at.ensures.fills c.in-Err.ensures.stops c.stop_at.ensures.same c.stop_at.ensures.is

@@ -33,6 +33,7 @@ returns-then-is_empty-clause-reads g c =
           c.reading.input.1 c.fill.new.self.1 c.reading.invariant.uses c.in_default.ensures.fills),
       omega (arith, size, below),
       none,
+      c.in_default.ensures.end none,
     )
 
 pub reading-preserved : goal.reading-preserved
