@@ -1,13 +1,5 @@
-pub mod AnyOrder
-pub mod Chains
-pub mod EmptyStores
-pub mod EntryTexts
+pub mod Commanding
+pub mod Importing
 pub mod Moves
-pub mod NoForms
-pub mod OneBundle
-pub mod OneForm
-pub mod OneNumber
-pub mod OnePart
-pub mod OneSection
-pub mod OneTree
-pub mod Roles
+pub mod Openings
+pub mod Running

@@ -1,100 +1,207 @@
--- What an import says and leaves by its status.
-use Rattle.std.specs.Prelude.{◌≡◌, ℕ, List, [], Option, String, IfSome}
-use Rattle.rad_base.specs.Faults.{Rose}
-use Rattle.rad_node.specs.Entries.{form_entries}
-use Rattle.rad_node.specs.Form.{FormOne, IsFormOne}
-use Rattle.rad_node.specs.Report.{report_of}
-use Rattle.rad_outside.specs.Disks.{Within}
-use Rattle.ref_journal.specs.Moments.{HasBodies}
-use Rattle.rad_node.specs.Words.{IsImport}
+-- What an import of a bundle into a store makes, and what it reports.
+use Rattle.std.specs.Prelude.{◌≡◌, ◌⊎◌, ◌<◌, ℕ, List, [], ◌++◌, true, length, Option, None, Some, Ok, Err, IfSome}
+use Rattle.std.specs.List.{AllByRecursion}
+use Rattle.rad_base.specs.declared.names.Nid.{Nid}
+use Rattle.rad_base.specs.declared.names.Rid.{Rid}
+use Rattle.keyring.specs.Contents.{Contents}
+use Rattle.ref_journal.specs.Frames.{gate_behind}
+use Rattle.repo_entries.specs.Items.{Item}
+use Rattle.repo_slice.specs.Keeps.{Constants, Held, HeldBehind, IsStopped}
+use Rattle.repo_slice.specs.declared.keep_fault.KeepFault.{KeepFault}
+use Rattle.repo_slice.specs.declared.keep_fault.KeepFault.TheVariants as fault
+use Rattle.repo_slice.specs.declared.outcomes.Outcome.{Outcome}
+use Rattle.repo_slice.specs.declared.outcomes.Outcome.TheVariants as outcome
+use Rattle.legal_history.specs.Durable.{durable_part}
+use Rattle.object_store.specs.Bodies.{bodies_of}
+use Rattle.object_store.specs.Held.{held_in}
+use Rattle.store_keep.specs.Made.{IsImageOf, ReopensLegal}
+use Rattle.fetch_stages.specs.Imports.{Bad, Came, Inside, IsBundleJob, IsHeadOn, IsNamedBy, Long, Unjudged, Verdict}
+use Rattle.fetch_stages.specs.declared.job_end.ImportEnd.{ImportEnd}
+use Rattle.fetch_stages.specs.declared.job_end.ImportEnd.TheVariants as import
+use Rattle.fetch_stages.specs.declared.job_end.JobEnd.{JobEnd}
+use Rattle.fetch_stages.specs.declared.job_end.JobEnd.TheVariants as job
+use Rattle.report_texts.specs.Texts.{job_text}
+use Rattle.rad_node.specs.Runs.{HasReport}
+use Rattle.rad_node.specs.Statuses.{AreGood, Files}
 use Rattle.rad_node.specs.declared.status.Status.{Status}
-use Rattle.rad_node.specs.declared.status.Status.TheVariants.{Ok, ReadFault, WriteFault, DiskFault, NoMemory, Unbuilt}
-use Rattle.rad_node.specs.declared.status.WhichSource.TheVariants.{Keys, Rules, Input}
+use Rattle.rad_node.specs.declared.status.Status.TheVariants as status
+use Rattle.rad_node.specs.declared.status.WhichSource.TheVariants as source
 
--- the count of faults rose between the two
-abbrev pub FaultsRose : {X : Type 0} → (X → ℕ) → X → X → Type 0
-FaultsRose faults old new = Rose (faults old) (faults new)
+-- what the entries of a store make of each repository
+abbrev pub held_behind : List Item → Rid → Held
+held_behind items rid = held_in rid items
 
--- a fault is answered only where its cause is there: a fault of the keyring's source, of the bundle's, of the
--- disk, of the sink
-abbrev pub IsCaused : Status → Type 0 → Type 0 → Type 0 → Type 0 → Type 0
-IsCaused Ok keys input disk out = Unit {0}
-IsCaused (ReadFault Keys) keys input disk out = keys
-IsCaused (ReadFault Rules) keys input disk out = ⊥
-IsCaused (ReadFault Input) keys input disk out = input
-IsCaused WriteFault keys input disk out = out
-IsCaused DiskFault keys input disk out = disk
-IsCaused NoMemory keys input disk out = Unit {0}
-IsCaused Unbuilt keys input disk out = Unit {0}
+-- by what an import's job runs: the keyring, the caller 1, and each repository
+abbrev pub importing : Contents → Constants
+importing keyring = record { keyring = keyring; caller = 1; stands = λ rid. true }
 
--- the run ended before it wrote to the disk
-abbrev pub IsUntouched : Status → Type 0
-IsUntouched Ok = ⊥
-IsUntouched (ReadFault which) = Unit {0}
-IsUntouched WriteFault = ⊥
-IsUntouched DiskFault = ⊥
-IsUntouched NoMemory = Unit {0}
-IsUntouched Unbuilt = Unit {0}
+-- what became of a remote is no refusal
+abbrev pub IsTaken : Outcome → Type 0
+IsTaken outcome.OutOfScope = Unit {0}
+IsTaken outcome.Same = Unit {0}
+IsTaken outcome.Stale = Unit {0}
+IsTaken (outcome.Missing oid) = ⊥
+IsTaken (outcome.BadObject oid) = ⊥
+IsTaken outcome.BadSigrefs = ⊥
+IsTaken outcome.NotAccepted = ⊥
+IsTaken outcome.Grafted = ⊥
+IsTaken outcome.Forked = ⊥
+IsTaken (outcome.Incomplete oid) = ⊥
+IsTaken outcome.Crowded = ⊥
+IsTaken outcome.Advanced = Unit {0}
 
--- the run ended before its report: nothing is given to the sink
-abbrev pub IsSilent : Status → Type 0
-IsSilent Ok = ⊥
-IsSilent (ReadFault which) = Unit {0}
-IsSilent WriteFault = ⊥
-IsSilent DiskFault = Unit {0}
-IsSilent NoMemory = Unit {0}
-IsSilent Unbuilt = Unit {0}
+-- no remote was refused
+abbrev pub AreTaken : List (Nid × Outcome) → Type 0
+AreTaken outcomes = AllByRecursion (λ remote. IsTaken remote.1) outcomes
 
--- every entry was acknowledged
-abbrev pub HasEntered : Status → Type 0
-HasEntered Ok = Unit {0}
-HasEntered (ReadFault which) = ⊥
-HasEntered WriteFault = Unit {0}
-HasEntered DiskFault = ⊥
-HasEntered NoMemory = ⊥
-HasEntered Unbuilt = ⊥
+-- the offer of a job or one of its remotes was refused
+abbrev pub IsRefusedEnd : JobEnd → Type 0
+IsRefusedEnd (job.Done judged head) = AreTaken judged.outcomes → ⊥
+IsRefusedEnd (job.Refused why) = Unit {0}
+IsRefusedEnd job.TooLong = Unit {0}
+IsRefusedEnd job.DiskFault = Unit {0}
+IsRefusedEnd job.Full = Unit {0}
+IsRefusedEnd (job.Changed change) = Unit {0}
+IsRefusedEnd job.NoMemory = Unit {0}
 
--- the end of an import whose bundle is form one: all was done, or the disk or the sink failed
-abbrev pub IsEnd : Status → Type 0
-IsEnd Ok = Unit {0}
-IsEnd (ReadFault which) = ⊥
-IsEnd WriteFault = Unit {0}
-IsEnd DiskFault = Unit {0}
-IsEnd NoMemory = ⊥
-IsEnd Unbuilt = ⊥
+-- by its bytes an import takes all that the bundle offers, and nothing follows the bundle
+abbrev pub IsTaking : Type 0 → Came → Type 0
+IsTaking at_end (Bad place) = ⊥
+IsTaking at_end (Inside place) = ⊥
+IsTaking at_end (Verdict rid on (Ok judged)) = AreTaken judged.outcomes × at_end
+IsTaking at_end (Verdict rid on (Err why)) = ⊥
+IsTaking at_end (Unjudged rid) = ⊥
+IsTaking at_end (Long rid) = ⊥
 
--- A bundle of form one was entered and reported. It is the source's, where that is told.
-pub record Entered
-    (keyring : List ℕ) (bundle : Option (List ℕ)) (grows : List (List ℕ) → Type 0) (gave : List ℕ → Type 0)
-    : Type 0 where
-  pub form : FormOne
+-- by its bytes an import refuses the offer or one of its remotes, and nothing follows the bundle; or the
+-- bundle is too long
+abbrev pub IsRefusing : Type 0 → Came → Type 0
+IsRefusing at_end (Bad place) = ⊥
+IsRefusing at_end (Inside place) = ⊥
+IsRefusing at_end (Verdict rid on (Ok judged)) = (AreTaken judged.outcomes → ⊥) × at_end
+IsRefusing at_end (Verdict rid on (Err why)) = at_end
+IsRefusing at_end (Unjudged rid) = ⊥
+IsRefusing at_end (Long rid) = Unit {0}
+
+-- a unit is broken at this place, or the bundle has ended there and bytes follow, or the input ends inside
+-- the unit there
+abbrev pub IsBadInput : Type 0 → Came → ℕ → Type 0
+IsBadInput at_end came place = (came ≡ Bad place) ⊎ ((came ≡ Inside place) × at_end)
+
+-- the bytes begin with this repository's name, or have no whole name
+abbrev pub MayName : List ℕ → Rid → Type 0
+MayName bytes rid = (length bytes < 20) ⊎ IsNamedBy bytes rid
+
+-- The end that a report tells of the job of these bytes: the verdict on the offer, with the head of what it
+-- leaves; the refusal; or that it was too long.
+abbrev pub TellsEnd : Constants → Came → Rid → JobEnd → Type 0
+TellsEnd constants came rid (job.Done judged head) =
+    (on : Held) × (came ≡ Verdict rid on (Ok judged))
+    × ((now : Held) × HeldBehind on (Ok judged) now × IsHeadOn constants now head)
+TellsEnd constants came rid (job.Refused why) = (on : Held) × (came ≡ Verdict rid on (Err why))
+TellsEnd constants came rid job.TooLong = came ≡ Long rid
+TellsEnd constants came rid job.DiskFault = ⊥
+TellsEnd constants came rid job.Full = ⊥
+TellsEnd constants came rid (job.Changed change) = ⊥
+TellsEnd constants came rid job.NoMemory = ⊥
+
+-- the report of an import: the block of its job
+pub record IsImportReport (keyring : Contents) (came : Came) (rid : Rid) (text : List ℕ) : Type 0 where
+  pub end : JobEnd
+  pub tells : TellsEnd (importing keyring) came rid end
+  pub written : text ≡ job_text rid end
+
+-- the end of a run that reports how its job ended
+abbrev pub IsJobReportEnd : JobEnd → Type 0 → Status → Type 0
+IsJobReportEnd end out result =
+    ((result ≡ status.Ok) × (IsRefusedEnd end → ⊥)) ⊎ ((result ≡ status.SomeRefused) × IsRefusedEnd end)
+    ⊎ ((result ≡ status.WriteFault) × out) ⊎ (result ≡ status.NoMemory)
+
+-- the end of a run whose import ended so; a fault of the sink is that of its report
+abbrev pub IsStatusOf : Type 0 → ImportEnd → Status → Type 0
+IsStatusOf out (import.Ended rid (job.Done judged head)) result = IsJobReportEnd (job.Done judged head) out result
+IsStatusOf out (import.Ended rid (job.Refused why)) result = IsJobReportEnd (job.Refused why) out result
+IsStatusOf out (import.Ended rid job.TooLong) result = IsJobReportEnd job.TooLong out result
+IsStatusOf out (import.Ended rid job.DiskFault) result = result ≡ status.DiskFault
+IsStatusOf out (import.Ended rid job.Full) result = result ≡ status.Full
+IsStatusOf out (import.Ended rid (job.Changed change)) result = result ≡ status.Changed change
+IsStatusOf out (import.Ended rid job.NoMemory) result = result ≡ status.NoMemory
+IsStatusOf out import.ReadFault result = result ≡ status.ReadFault source.Input
+IsStatusOf out (import.InputBad place) result = result ≡ status.InputBad place
+IsStatusOf out import.NoMemory result = result ≡ status.NoMemory
+
+-- what is reported of an import that ended so
+abbrev pub report_of : ImportEnd → Option (List ℕ)
+report_of (import.Ended rid end) = Some (job_text rid end)
+report_of import.ReadFault = None
+report_of (import.InputBad place) = None
+report_of import.NoMemory = None
+
+-- the end of a run that opened its store and took the bundle
+abbrev pub IsImportEnd : Status → Type 0
+IsImportEnd status.Ok = Unit {0}
+IsImportEnd status.Usage = ⊥
+IsImportEnd (status.ReadFault source.Keys) = ⊥
+IsImportEnd (status.ReadFault source.Rules) = ⊥
+IsImportEnd (status.ReadFault source.Input) = Unit {0}
+IsImportEnd status.WriteFault = Unit {0}
+IsImportEnd status.DiskFault = Unit {0}
+IsImportEnd status.Unmade = ⊥
+IsImportEnd (status.Damaged place) = ⊥
+IsImportEnd (status.KeyringBad line) = ⊥
+IsImportEnd (status.InputBad place) = Unit {0}
+IsImportEnd status.SomeRefused = Unit {0}
+IsImportEnd status.Full = Unit {0}
+IsImportEnd (status.NotLegal n) = ⊥
+IsImportEnd status.AlreadyMade = ⊥
+IsImportEnd (status.Changed change) = ⊥
+IsImportEnd status.NoMemory = Unit {0}
+
+-- the refusal of a call of the store at which a run ended
+abbrev pub fault_of : Status → Option KeepFault
+fault_of status.DiskFault = Some fault.DiskFault
+fault_of status.Full = Some fault.Full
+fault_of status.NoMemory = Some fault.NoMemory
+fault_of other = None
+
+-- the entries that were made of those of the bundle's job: all, or those before the call that was refused
+abbrev pub IsMadeOf : Option KeepFault → Rid → ℕ → List Item → List Item → Type 0
+IsMadeOf None rid end entries history = history ≡ entries
+IsMadeOf (Some why) rid end entries history = IsStopped rid 1 end entries why history
+
+-- the run took the bundle to where its job stopped by its bytes
+abbrev pub IsWholeRun : Status → Type 0
+IsWholeRun status.Ok = Unit {0}
+IsWholeRun status.SomeRefused = Unit {0}
+IsWholeRun status.WriteFault = Unit {0}
+IsWholeRun (status.InputBad place) = Unit {0}
+IsWholeRun other = ⊥
+
+-- The import of a bundle into a store that has these entries. The bundle's bytes were taken, and the job of
+-- those that were read has its entries and its stop. Those that were made stand behind the stored ones: every
+-- image that a crash now may leave is a journal of the durable part of both, or of it and the one entry in
+-- doubt that the last missed one names, and is opened again as a legal history. Where a report was given it is
+-- that of the job's end.
+pub record Imported (files : Files) (consumed : List ℕ → Type 0) (at_end : Type 0) (images gives : List ℕ → Type 0) (result : Status) : Type 0 where
+  pub keyring : Contents
+  pub stored : List Item
+  pub good : AreGood files keyring stored
   pub bytes : List ℕ
-  pub is : IsFormOne keyring bytes form
-  pub told : IfSome bundle (λ known. bytes ≡ known)
-  pub entries : grows (form_entries form)
-  pub report : gave (report_of form)
-
--- The words were an import, and a keyring file and a bundle were form one: those of the sources, where they are
--- told. A store that is told was empty, and every image that a crash now may leave has exactly the form's entries.
--- This was given of the form's report.
-pub record Imported
-    {A : Type 0} (words : List (String A)) (keyring bundle store : Option (List ℕ))
-    (images : List ℕ → Type 0) (gave : List ℕ → Type 0)
-    : Type 0 where
-  pub form : FormOne
-  pub command : IsImport words
-  pub file : List ℕ
-  pub bytes : List ℕ
-  pub is : IsFormOne file bytes form
-  pub keyring_told : IfSome keyring (λ known. file ≡ known)
-  pub bundle_told : IfSome bundle (λ known. bytes ≡ known)
-  pub empty : IfSome store (HasBodies [])
-  pub entries : IfSome store (λ _. Within images (HasBodies (form_entries form)))
-  pub report : gave (report_of form)
-
--- the words, the keyring file, the bundle and the store, all of which are told, are not form one
-abbrev pub IsNoForm :
-    {A : Type 0} → List (String A) → Option (List ℕ) → Option (List ℕ) → Option (List ℕ) → Type 0
-IsNoForm words keyring bundle store =
-    IfSome keyring (λ file. IfSome bundle (λ bytes. IfSome store (λ disk.
-    (form : FormOne) → IsImport words → IsFormOne file bytes form → HasBodies [] disk → ⊥)))
+  pub unread : List ℕ
+  pub took : consumed (bytes ++ unread)
+  pub whole : IsWholeRun result → unread ≡ []
+  pub entries : List Item
+  pub came : Came
+  pub job : IsBundleJob (importing keyring) (held_behind stored) bytes entries came
+  pub bad : (place : ℕ) → result ≡ status.InputBad place → IsBadInput at_end came place
+  pub ok : result ≡ status.Ok → IsTaking at_end came
+  pub refused : result ≡ status.SomeRefused → IsRefusing at_end came
+  pub rid : Rid
+  pub named : MayName bytes rid
+  pub end : ℕ
+  pub history : List Item
+  pub made : IsMadeOf (fault_of result) rid end entries history
+  pub end_is : IfSome files.store (λ _. end ≡ gate_behind (bodies_of (durable_part (stored ++ history))))
+  pub images_are : IfSome files.store (λ _. (image : List ℕ) → images image → IsImageOf (stored ++ history) image)
+  pub legal : IfSome files.store (λ _. (image : List ℕ) → images image → ReopensLegal keyring image)
+  pub report : HasReport result → (text : List ℕ) × IsImportReport keyring came rid text × gives text

@@ -1,83 +1,134 @@
-// The import of a bundle into a store without entries.
-ghost use Rattle.std.specs.Prelude.{◌≡◌, ◌≤◌, length, IfSome};
-ghost use Rattle.std.specs.Io.KnownBytes.{Appends, Keeps};
-ghost use Rattle.rad_node.specs.Form.{FormOne, IsFormOne};
-ghost use Rattle.rad_node.specs.Imports.{Entered, FaultsRose, HasEntered, IsCaused, IsEnd};
-ghost use Rattle.rad_node.specs.Imports.{IsSilent, IsUntouched};
-ghost use Rattle.rad_node.specs.Store.{Grows};
-ghost use Rattle.rad_node.specs.Transfers.{AppendsFront};
-ghost use Rattle.rad_node.specs.Works.{AreFour};
+// The import of a bundle, and its report.
+ghost use Rattle.std.specs.Prelude.{◌≡◌, ◌≤◌, ◌⊎◌, IfSome};
+ghost use Rattle.std.specs.Io.KnownBytes.{Consumes, IsAtEnd, Keeps};
+ghost use Rattle.rad_base.specs.Faults.{Rose};
+ghost use Rattle.object_store.specs.Held.{IsUnclaimed};
+ghost use Rattle.object_store.specs.Stores.{StandsForSome};
+ghost use Rattle.rad_node.specs.Done.{MayBeUnopened};
+ghost use Rattle.rad_node.specs.Imports.{Imported, IsImportEnd, IsJobReportEnd, IsStatusOf};
+ghost use Rattle.rad_node.specs.Imports.{report_of};
+ghost use Rattle.rad_node.specs.Opening.{HasOpened};
+ghost use Rattle.rad_node.specs.Runs.{HasReport, IsKept};
+ghost use Rattle.rad_node.specs.Statuses.{Files, IsCaused, IsKeyringEnd, IsOpeningEnd, IsSaid};
+ghost use Rattle.rad_node.specs.Transfers.{GivesBy};
+ghost use Rattle.rad_node.specs.declared.command.Command.TheVariants as command;
+ghost use Rattle.fetch_stages.specs.declared.job_end.ImportEnd.TheVariants as import;
+ghost use Rattle.report_texts.specs.Texts.{job_text};
 
+use crate::job::{is_refused, run_job};
+use crate::opening::open_store;
+use crate::report::give_report;
 use crate::status::{Status, WhichSource};
-use crate::store::append_all;
-use crate::transfer::{ReadFault, give_all, read_all};
-use crate::work::{Work, work_of};
-use rad_outside::{Disk, Failed, Sink, Source};
-use ref_journal::Journal;
+use fetch_stages::{ImportEnd, JobEnd};
+use object_store::Store;
+use rad_base::Rid;
+use rad_outside::{Disk, Sink, Source};
+use report_texts::push_job;
 use std::alloc::Global;
 
-/// Reads a bundle, enters what it offers and reports it. The journal has no entries.
-pub(crate) fn import<D: Disk, I: Source, W: Sink>(
-    alloc: Global,
-    journal: &mut Journal<D>,
-    keyring: &[u8],
-    input: &mut I,
-    out: &mut W,
-) -> Status
-    requires place { journal.old.end ≡ 8 }
-    requires keyring_size { length keyring.now ≤ 65536 }
-    ensures stays { D.loan journal.new.disk ≡ D.loan journal.old.disk }
-    ensures later { D.faults journal.old.disk ≤ D.faults journal.new.disk }
-    ensures cause { IsCaused result ⊥ (FaultsRose I.faults input.old input.new)
-        (FaultsRose D.faults journal.old.disk journal.new.disk)
-        (FaultsRose W.faults out.old out.new) }
-    ensures kept { IsUntouched result → journal.new ≡ journal.old }
-    ensures silent { IsSilent result → Keeps (W.given out.old) (W.given out.new) }
-    ensures unbuilt { result ≡ Status.Unbuilt → IfSome (I.left input.old) (λ bytes.
-        (form : FormOne) → IsFormOne keyring.now bytes form → ⊥) }
-    ensures ok { result ≡ Status.Ok → Entered keyring.now (I.left input.old)
-        (Grows D.reads_as D.images journal.old journal.new)
-        (Appends (W.given out.old) (W.given out.new)) }
-    ensures write { result ≡ Status.WriteFault → Entered keyring.now (I.left input.old)
-        (Grows D.reads_as D.images journal.old journal.new)
-        (AppendsFront (W.given out.old) (W.given out.new)) }
+// Reports how the job of a repository ended.
+fn report_job<W: Sink>(alloc: Global, rid: &Rid, end: &JobEnd, out: &mut W) -> Status
+    ensures end { IsJobReportEnd end.now (Rose (W.faults out.old) (W.faults out.new)) result }
+    ensures gives { HasReport result
+        → GivesBy result (W.given out.old) (W.given out.new) (job_text rid.now end.now) }
+    ensures silent { (HasReport result → ⊥) → Keeps (W.given out.old) (W.given out.new) }
 {
-    let bundle = match read_all(alloc, input) {
-        Ok(bundle) => bundle,
-        Err(ReadFault::Failed) => return Status::ReadFault(WhichSource::Input),
-        Err(ReadFault::TooLong) => return Status::Unbuilt,
-        Err(ReadFault::NoMemory) => return Status::NoMemory,
-    };
-    match work_of(alloc, keyring, &bundle) {
+    let mut text = Vec::new(alloc);
+    match push_job(&mut text, rid, end) {
+        Ok(()) => give_report(out, &text, is_refused(end)),
         Err(_) => Status::NoMemory,
-        Ok(None) => Status::Unbuilt,
-        Ok(Some(work)) => enter(journal, &work, out),
     }
 }
 
-// Appends the entries, and gives the report.
-fn enter<D: Disk, W: Sink>(journal: &mut Journal<D>, work: &Work, out: &mut W) -> Status
-    requires place { journal.old.end ≡ 8 }
-    requires four { AreFour work.now.entries.items }
-    ensures stays { D.loan journal.new.disk ≡ D.loan journal.old.disk }
-    ensures later { D.faults journal.old.disk ≤ D.faults journal.new.disk }
-    ensures end { IsEnd result }
-    ensures cause { IsCaused result ⊥ ⊥
-        (FaultsRose D.faults journal.old.disk journal.new.disk)
-        (FaultsRose W.faults out.old out.new) }
-    ensures grows { HasEntered result
-        → Grows D.reads_as D.images journal.old journal.new work.now.entries.items }
-    ensures silent { IsSilent result → Keeps (W.given out.old) (W.given out.new) }
-    ensures ok { result ≡ Status.Ok → Appends (W.given out.old) (W.given out.new) work.now.report }
-    ensures write { result ≡ Status.WriteFault
-        → AppendsFront (W.given out.old) (W.given out.new) work.now.report }
+// Reports how the job of a repository ended, unless a call of the store was refused.
+fn report_end<W: Sink>(alloc: Global, rid: &Rid, end: &JobEnd, out: &mut W) -> Status
+    ensures status { IsStatusOf (Rose (W.faults out.old) (W.faults out.new))
+        (import.Ended rid.now end.now) result }
+    ensures gives { HasReport result
+        → GivesBy result (W.given out.old) (W.given out.new) (job_text rid.now end.now) }
+    ensures silent { (HasReport result → ⊥) → Keeps (W.given out.old) (W.given out.new) }
 {
-    match append_all(journal, &work.entries) {
-        Err(Failed) => return Status::DiskFault,
-        Ok(()) => {}
+    match end {
+        JobEnd::Done(_, _) => report_job(alloc, rid, end, out),
+        JobEnd::Refused(_) => report_job(alloc, rid, end, out),
+        JobEnd::TooLong => report_job(alloc, rid, end, out),
+        JobEnd::DiskFault => Status::DiskFault,
+        JobEnd::Full => Status::Full,
+        JobEnd::Changed(change) => Status::Changed(*change),
+        JobEnd::NoMemory => Status::NoMemory,
     }
-    match give_all(out, work.report.as_slice()) {
-        Err(Failed) => Status::WriteFault,
-        Ok(()) => Status::Ok,
+}
+
+// Reports how an import ended, unless that is how the run ends.
+fn report_import<W: Sink>(alloc: Global, end: &ImportEnd, out: &mut W) -> Status
+    ensures status { IsStatusOf (Rose (W.faults out.old) (W.faults out.new)) end.now result }
+    ensures gives { HasReport result
+        → IfSome (report_of end.now) (GivesBy result (W.given out.old) (W.given out.new)) }
+    ensures silent { (HasReport result → ⊥) → Keeps (W.given out.old) (W.given out.new) }
+{
+    match end {
+        ImportEnd::Ended(rid, end) => report_end(alloc, rid, end, out),
+        ImportEnd::ReadFault => Status::ReadFault(WhichSource::Input),
+        ImportEnd::InputBad(place) => Status::InputBad(*place),
+        ImportEnd::NoMemory => Status::NoMemory,
+    }
+}
+
+// Imports the bundle that an input has into a store that nobody claims, and reports it.
+fn import_bundle<D: Disk, I: Source, W: Sink>(
+    alloc: Global,
+    store: Store<D>,
+    input: &mut I,
+    out: &mut W,
+) -> (Status, D)
+    requires stands { StandsForSome store }
+    requires unclaimed { IsUnclaimed store }
+    ensures stays { D.loan result.1 ≡ D.loan store.journal.disk }
+    ensures later { D.faults store.journal.disk ≤ D.faults result.1 }
+    ensures end { IsImportEnd result.0 }
+    ensures cause { IsCaused result.0 ⊥ (Rose (I.faults input.old) (I.faults input.new))
+        (Rose (D.faults store.journal.disk) (D.faults result.1))
+        (Rose (W.faults out.old) (W.faults out.new)) }
+    ensures imported { (files : Files) → HasOpened D.reads_as D.images files store
+        → Imported files (Consumes (I.left input.old) (I.left input.new))
+        (IsAtEnd (I.left input.new)) (D.images result.1)
+        (GivesBy result.0 (W.given out.old) (W.given out.new)) result.0 }
+    ensures silent { (HasReport result.0 → ⊥) → Keeps (W.given out.old) (W.given out.new) }
+{
+    let (end, store) = run_job(alloc, store, input);
+    let status = report_import(alloc, &end, out);
+    let (disk, _history) = store.close();
+    (status, disk)
+}
+
+/// Opens the store on a disk under the keyring, imports the bundle that an input has, and reports
+/// how its job ended. The disk comes back.
+pub(crate) fn import<D: Disk, S: Source, I: Source, W: Sink>(
+    alloc: Global,
+    disk: D,
+    keys: &mut S,
+    input: &mut I,
+    out: &mut W,
+) -> (Status, D)
+    ensures stays { D.loan result.1 ≡ D.loan disk }
+    ensures cause { IsCaused result.0 (Rose (S.faults keys.old) (S.faults keys.new))
+        (Rose (I.faults input.old) (I.faults input.new))
+        (Rose (D.faults disk) (D.faults result.1)) (Rose (W.faults out.old) (W.faults out.new)) }
+    ensures order { (IsKeyringEnd result.0 → result.1 ≡ disk)
+        × (IsOpeningEnd result.0 → input.new ≡ input.old) }
+    ensures said { IsSaid command.Import
+        (record { keyring = S.left keys.old; store = D.reads_as disk }) result.0 }
+    ensures kept { IsOpeningEnd result.0 → IsKept (D.reads_as disk) (D.reads_as result.1)
+        (D.images disk) (D.images result.1) }
+    ensures done { Imported (record { keyring = S.left keys.old; store = D.reads_as disk })
+        (Consumes (I.left input.old) (I.left input.new)) (IsAtEnd (I.left input.new))
+        (D.images result.1) (GivesBy result.0 (W.given out.old) (W.given out.new)) result.0
+        ⊎ (MayBeUnopened result.0 × IsKept (D.reads_as disk) (D.reads_as result.1)
+        (D.images disk) (D.images result.1) × (input.new ≡ input.old)) }
+    ensures silent { (HasReport result.0 → ⊥) → Keeps (W.given out.old) (W.given out.new) }
+{
+    match open_store(alloc, disk, keys) {
+        Ok(store) => import_bundle(alloc, store, input, out),
+        Err(refusal) => (refusal.status, refusal.disk),
     }
 }

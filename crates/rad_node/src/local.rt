@@ -1,38 +1,78 @@
 // The run of a command over what it is handed.
-ghost use Rattle.std.specs.Prelude.{◌≡◌, [], IfSome};
-ghost use Rattle.std.specs.Io.KnownBytes.{Appends, Keeps};
-ghost use Rattle.rad_outside.specs.Disks.{Within};
-ghost use Rattle.ref_journal.specs.Moments.{HasBodies};
-ghost use Rattle.rad_node.specs.Imports.{FaultsRose, Imported, IsCaused, IsNoForm};
-ghost use Rattle.rad_node.specs.Imports.{IsSilent, IsUntouched};
-ghost use Rattle.rad_node.specs.Transfers.{AppendsFront};
-ghost use Rattle.rad_node.specs.Words.{IsImport};
+ghost use Rattle.std.specs.Prelude.{◌≡◌, ◌≤◌};
+ghost use Rattle.std.specs.Io.KnownBytes.{Consumes, IsAtEnd, Keeps};
+ghost use Rattle.rad_base.specs.Faults.{Rose};
+ghost use Rattle.rad_node.specs.Commands.{Says};
+ghost use Rattle.rad_node.specs.Done.{IsDone};
+ghost use Rattle.rad_node.specs.Runs.{HasReport, IsKept, OnlyReadsDisk};
+ghost use Rattle.rad_node.specs.Statuses.{IsCaused, IsOrdered, IsSaid, IsUsage};
+ghost use Rattle.rad_node.specs.Transfers.{GivesBy};
+ghost use Rattle.rad_node.specs.declared.command.Command.{Command as IsCommand};
 
+use crate::command::{Command, command_of};
 use crate::import::import;
-use crate::status::{Status, WhichSource};
-use crate::store::{StoreFault, open_empty};
-use crate::transfer::{ReadFault, read_all};
-use crate::words::is_import;
+use crate::making::make_store;
+use crate::printing::{Report, print_store};
+use crate::status::Status;
 use rad_outside::{Disk, Sink, Source};
 use std::alloc::Global;
 
-/// Runs the command that the words give: `import <store> <keyring> <bundle>`.
+// Runs a command on a disk, which comes back.
+fn run_command<D: Disk, S: Source, I: Source, W: Sink>(
+    alloc: Global,
+    command: Command,
+    disk: D,
+    keys: &mut S,
+    input: &mut I,
+    out: &mut W,
+) -> (Status, D)
+    ensures stays { D.loan result.1 ≡ D.loan disk }
+    ensures cause { IsCaused result.0 (Rose (S.faults keys.old) (S.faults keys.new))
+        (Rose (I.faults input.old) (I.faults input.new))
+        (Rose (D.faults disk) (D.faults result.1)) (Rose (W.faults out.old) (W.faults out.new)) }
+    ensures order { IsOrdered command result.0 (result.1 ≡ disk)
+        (keys.new ≡ keys.old) (input.new ≡ input.old) }
+    ensures said { IsSaid command
+        (record { keyring = S.left keys.old; store = D.reads_as disk }) result.0 }
+    ensures kept { OnlyReadsDisk command result.0
+        → IsKept (D.reads_as disk) (D.reads_as result.1) (D.images disk) (D.images result.1) }
+    ensures done { IsDone command (record { keyring = S.left keys.old; store = D.reads_as disk })
+        (Consumes (I.left input.old) (I.left input.new)) (IsAtEnd (I.left input.new))
+        (D.images result.1) (GivesBy result.0 (W.given out.old) (W.given out.new))
+        (IsKept (D.reads_as disk) (D.reads_as result.1) (D.images disk) (D.images result.1)
+        × (input.new ≡ input.old)) result.0 }
+    ensures silent { (HasReport result.0 → ⊥) → Keeps (W.given out.old) (W.given out.new) }
+{
+    match command {
+        Command::Init => make_store(disk, out),
+        Command::Import => import(alloc, disk, keys, input, out),
+        Command::Show => print_store(alloc, Report::Show, disk, keys, out),
+        Command::Heads => print_store(alloc, Report::Heads, disk, keys, out),
+        Command::Audit => print_store(alloc, Report::Audit, disk, keys, out),
+    }
+}
+
+/// Runs the command that the words give: it reads the words, the keyring, the store and the bundle,
+/// in this order, and gives the report last. The first refusal ends it.
 ///
-/// It tests the words, reads the keyring file, opens the store, reads the bundle, tests the form,
-/// appends the entries and gives the report, in this order. The first refusal ends it.
-///
-/// Form one is a bundle that offers one remote with one ref, on a commit without parents whose tree
-/// has one file, a keyring file whose one line accepts that remote's signature, and a store without
-/// entries. The bundle and the keyring file have at most 65,536 bytes each.
-///
-/// - `Ok`: the store has the entries, and the report was given.
-/// - `ReadFault`: a take from that source failed. The store is as before, and nothing was given.
-/// - `WriteFault`: the sink failed. The store has the entries, and a prefix of the report was
+/// - `Ok`: all was done, and the report was given.
+/// - `Usage`: the words are no command. Nothing was asked.
+/// - `ReadFault`: a take from that source failed.
+/// - `WriteFault`: the sink failed. The store has what was done, and a prefix of the report was
 ///   given.
-/// - `DiskFault`: the disk failed. Nothing was given, and nothing is said of what the store has.
-/// - `NoMemory`: memory was refused. The store is as before, and nothing was given.
-/// - `Unbuilt`: the words are no import, or the files are not form one. The store is as before, and
-///   nothing was given.
+/// - `DiskFault`: a call of the disk failed.
+/// - `Unmade`: no store is made: the disk has fewer than 9 bytes, or its first is not 1.
+/// - `Damaged`: the disk's bytes are no journal of entries; the least place that shows it.
+/// - `KeyringBad`: the keyring file's first broken line, or 0 where the file has more than
+///   268,435,456 bytes.
+/// - `InputBad`: the bundle is broken, ends inside a unit, or has ended and bytes follow; the place
+///   of that unit. The store has the entries from before it.
+/// - `SomeRefused`: the offer or one of its remotes was refused. The report says why.
+/// - `Full`: the store has no room for the next entry.
+/// - `NotLegal`: the store's first entry that is not legal under the keyring.
+/// - `AlreadyMade`: a store is made. It stays as it was.
+/// - `Changed`: never.
+/// - `NoMemory`: memory was refused.
 pub fn run_local<D: Disk, S: Source, I: Source, W: Sink>(
     alloc: Global,
     words: &[String],
@@ -41,42 +81,32 @@ pub fn run_local<D: Disk, S: Source, I: Source, W: Sink>(
     input: &mut I,
     out: &mut W,
 ) -> Status
-    ensures cause { IsCaused result
-        (FaultsRose S.faults keys.old keys.new) (FaultsRose I.faults input.old input.new)
-        (FaultsRose D.faults disk.old disk.new) (FaultsRose W.faults out.old out.new) }
-    ensures ok { result ≡ Status.Ok → Imported words.now
-        (S.left keys.old) (I.left input.old) (D.reads_as disk.old) (D.images disk.new)
-        (Appends (W.given out.old) (W.given out.new)) }
-    ensures write { result ≡ Status.WriteFault → Imported words.now
-        (S.left keys.old) (I.left input.old) (D.reads_as disk.old) (D.images disk.new)
-        (AppendsFront (W.given out.old) (W.given out.new)) }
-    ensures unbuilt { result ≡ Status.Unbuilt → IsNoForm words.now
-        (S.left keys.old) (I.left input.old) (D.reads_as disk.old) }
-    ensures words { (IsImport words.now → ⊥) → (result ≡ Status.Unbuilt)
-        × (keys.new ≡ keys.old) × (input.new ≡ input.old) × (disk.new ≡ disk.old) }
-    ensures first { result ≡ Status.ReadFault WhichSource.Keys
-        → (input.new ≡ input.old) × (disk.new ≡ disk.old) }
-    ensures store { IfSome (D.reads_as disk.old)
-        (λ bytes. (HasBodies [] bytes → ⊥) → input.new ≡ input.old) }
-    ensures kept { IsUntouched result → Keeps (D.reads_as disk.old) (D.reads_as disk.new)
-        × Within (D.images disk.new) (D.images disk.old) }
-    ensures silent { IsSilent result → Keeps (W.given out.old) (W.given out.new) }
+    ensures cause { IsCaused result (Rose (S.faults keys.old) (S.faults keys.new))
+        (Rose (I.faults input.old) (I.faults input.new))
+        (Rose (D.faults disk.old) (D.faults disk.new))
+        (Rose (W.faults out.old) (W.faults out.new)) }
+    ensures usage { IsUsage words.now result }
+    ensures untouched { result ≡ Status.Usage → (disk.new ≡ disk.old) × (keys.new ≡ keys.old)
+        × (input.new ≡ input.old) × (out.new ≡ out.old) }
+    ensures order { (command : IsCommand) → Says words.now command
+        → IsOrdered command result (disk.new ≡ disk.old)
+        (keys.new ≡ keys.old) (input.new ≡ input.old) }
+    ensures said { (command : IsCommand) → Says words.now command → IsSaid command
+        (record { keyring = S.left keys.old; store = D.reads_as disk.old }) result }
+    ensures kept { (command : IsCommand) → Says words.now command → OnlyReadsDisk command result
+        → IsKept (D.reads_as disk.old) (D.reads_as disk.new)
+        (D.images disk.old) (D.images disk.new) }
+    ensures done { (command : IsCommand) → Says words.now command → IsDone command
+        (record { keyring = S.left keys.old; store = D.reads_as disk.old })
+        (Consumes (I.left input.old) (I.left input.new)) (IsAtEnd (I.left input.new))
+        (D.images disk.new) (GivesBy result (W.given out.old) (W.given out.new))
+        (IsKept (D.reads_as disk.old) (D.reads_as disk.new)
+        (D.images disk.old) (D.images disk.new) × (input.new ≡ input.old)) result }
+    ensures silent { (HasReport result → ⊥) → Keeps (W.given out.old) (W.given out.new) }
 {
-    if !is_import(words) {
-        return Status::Unbuilt;
-    }
-    let keyring = match read_all(alloc, keys) {
-        Ok(keyring) => keyring,
-        Err(ReadFault::Failed) => return Status::ReadFault(WhichSource::Keys),
-        Err(ReadFault::TooLong) => return Status::Unbuilt,
-        Err(ReadFault::NoMemory) => return Status::NoMemory,
+    let Some(command) = command_of(words) else {
+        return Status::Usage;
     };
-    let mut journal = match open_empty(disk) {
-        Ok(journal) => journal,
-        Err(StoreFault::DiskFault(_disk)) => return Status::DiskFault,
-        Err(StoreFault::NotEmpty(_disk)) => return Status::Unbuilt,
-    };
-    let status = import(alloc, &mut journal, &keyring, input, out);
-    let _disk = journal.close();
+    let (status, _disk) = run_command(alloc, command, &mut *disk, keys, input, out);
     status
 }

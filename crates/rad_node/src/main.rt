@@ -3,37 +3,20 @@
 
 ghost use Rattle.std.specs.Prelude.{◌≡◌};
 
-mod bundle;
-mod commit;
-mod document;
-mod entries;
-mod form;
-mod hex_text;
-mod identity;
+mod command;
 mod import;
-mod keys;
-mod kinds;
-mod laws;
+mod job;
 mod local;
-mod names;
-mod numbers;
-mod part;
+mod making;
+mod opening;
+mod printing;
 mod report;
 #[cfg(test)]
 mod runs;
-mod section;
-mod signed;
 mod status;
-mod store;
-#[cfg(test)]
-mod tests;
-mod tip;
 mod transfer;
-mod trees;
-mod words;
-mod work;
 
-pub use laws::forms_are_read_in_one_way;
+pub use command::{Command, command_of};
 pub use local::run_local;
 use rad_outside::{FileDisk, FileSource, StdSink};
 pub use status::{Status, WhichSource};
@@ -43,16 +26,32 @@ use std::io::ErrorKind;
 use std::process::ExitCode;
 
 const HELP: &str = "\
-usage: rad_node import STORE KEYRING BUNDLE
+usage: rad_node COMMAND
 
-Takes what a bundle offers into a store, and reports what stands. As yet it takes the smallest
-bundle alone: one remote, one commit.
-  STORE    the file of a made store without entries
-  KEYRING  the file of accepted signatures
+Keeps repositories of the Radicle network in a store: identities, and the signed branches of each
+person, as they were accepted.
+
+  rad_node init STORE                   make an empty store
+  rad_node import STORE KEYRING BUNDLE  take what a bundle offers into the store, and report it
+  rad_node show STORE KEYRING           print each repository's identity and remotes
+  rad_node heads STORE KEYRING          print each repository's canonical head
+  rad_node audit STORE KEYRING          read the whole store again, and print what it counts
+
+  STORE    the file of the store
+  KEYRING  the file of names and accepted signatures
   BUNDLE   the file of a repository's objects and signed refs
 
   --help     print this text
   --version  print the version
+
+for example:
+  rad_node init store
+  rad_node import store demo/fixture.keys demo/fixture.bundle
+
+exit status: 0 done; 1 no command; 2 a file is not read; 3 the report is not written; 4 the store's
+file failed; 5 no store is made; 6 the store is damaged; 7 the keyring is broken at a line; 9 the
+bundle is broken at a byte; 10 something was refused, as the report says; 11 the store is full; 12 an
+entry of the store is not legal under the keyring; 13 a store is made already; 70 no memory
 ";
 
 const VERSION: &str = "rad_node 0.1.0\n";
@@ -60,12 +59,12 @@ const VERSION: &str = "rad_node 0.1.0\n";
 // How a run ends whose words cannot be read: memory was refused, or a word is not UTF-8.
 fn refused(kind: ErrorKind) -> Status
     ensures memory { kind ≡ ErrorKind.OutOfMemory → result ≡ Status.NoMemory }
-    ensures other { (kind ≡ ErrorKind.OutOfMemory → ⊥) → result ≡ Status.Unbuilt }
+    ensures other { (kind ≡ ErrorKind.OutOfMemory → ⊥) → result ≡ Status.Usage }
 {
     if kind == ErrorKind::OutOfMemory {
         Status::NoMemory
     } else {
-        Status::Unbuilt
+        Status::Usage
     }
 }
 

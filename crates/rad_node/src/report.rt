@@ -1,30 +1,21 @@
-// What an import reports.
-ghost use Rattle.std.specs.Prelude.{◌≡◌, IfOk};
-ghost use Rattle.rad_node.specs.Parts.{form_one};
-ghost use Rattle.rad_node.specs.Report.{report_of};
+// The end of a run that gives its report.
+ghost use Rattle.rad_base.specs.Faults.{Rose};
+ghost use Rattle.rad_node.specs.Runs.{IsReportEnd};
+ghost use Rattle.rad_node.specs.Transfers.{GivesBy};
 
-use crate::form::Form;
-use crate::hex_text::push_hex;
-use rad_base::{Bytes, NoMemory};
-use std::alloc::Global;
+use crate::status::Status;
+use crate::transfer::give_all;
+use rad_outside::{Failed, Sink};
 
-impl Form<'_> {
-    /// The report of the form's import.
-    pub(crate) fn report(&self, alloc: Global) -> Result<Bytes, NoMemory>
-        ensures { IfOk result (λ report. report ≡ report_of (form_one self.now)) }
-    {
-        let mut text = Vec::new(alloc);
-        text.extend_from_slice(b"job ")?;
-        push_hex(&mut text, &self.bundle.rid.0.0)?;
-        text.extend_from_slice(b" done\nid first ")?;
-        push_hex(&mut text, &self.bundle.identity.0)?;
-        text.extend_from_slice(b"\nremote ")?;
-        push_hex(&mut text, &self.bundle.node.0)?;
-        text.extend_from_slice(b" advanced ")?;
-        push_hex(&mut text, &self.bundle.signed.0)?;
-        text.extend_from_slice(b"\nhead at ")?;
-        push_hex(&mut text, &self.tip.0)?;
-        text.extend_from_slice(b"\n")?;
-        Ok(Bytes::of(text))
+/// Gives a report, and answers how a run ends that says so: `SomeRefused` where something was
+/// refused, else `Ok`; `WriteFault` where the sink failed.
+pub(crate) fn give_report<W: Sink>(out: &mut W, text: &[u8], refused: bool) -> Status
+    ensures end { IsReportEnd refused (Rose (W.faults out.old) (W.faults out.new)) result }
+    ensures gives { GivesBy result (W.given out.old) (W.given out.new) text.now }
+{
+    match give_all(out, text) {
+        Err(Failed) => Status::WriteFault,
+        Ok(()) if refused => Status::SomeRefused,
+        Ok(()) => Status::Ok,
     }
 }

@@ -1,7 +1,7 @@
-// Runs of the import over objects in memory. What must come out was made by another program.
-use crate::tests::{KEYRING, REPORT, bundle_in};
-use crate::{Status, WhichSource, run_local};
-use rad_outside::{MemDisk, MemSink, MemSource, Source};
+// Whole runs over objects in memory.
+use crate::{Command, Status, WhichSource, command_of, run_local};
+use rad_outside::{Fill, MemDisk, MemSink, MemSource};
+use rad_vectors::{Made, bundle_of, fixture};
 use ref_journal::Journal;
 use std::alloc::Global;
 use std::test::Fail;
@@ -9,17 +9,52 @@ use std::test::Fail;
 // A made store without entries.
 const MADE: &[u8] = b"\x01radjrn\x01\x00";
 
-// The store after the import.
-const JOURNAL: &[u8] =
-    b"\x01radjrn\x01\x01\x00\x00\x00\x00\x00\x00\x01\xa1\x01\xfd8fZqk\xc6\xe2\x1e\x89\x85|\xe1\xce\xf9&\x8f\x03\x9e\xbc\x00\x00\x00\x04\x02\x00\x00\x00(100644 radicle.json\x00\xfd8fZqk\xc6\xe2\x1e\x89\x85|\xe1\xce\xf9&\x8f\x03\x9e\xbc\x01\x00\x00\x00ctree 32de41ab21c8b00455c7c6b348fa02b76083a957\nauthor a <a@b> 0 +0000\ncommitter a <a@b> 0 +0000\n\nid\n\x02\x00\x00\x00!40000 embeds\x00\x15\x8a,\xc1\x17\xcd\xcb|s.\x94\x9e\x98w\xad\xf4\xc4,\x9cV\x03\x00\x00\x00\xc8{\"delegates\":[\"did:key:fed010101010101010101010101010101010101010101010101010101010101010101\"],\"payload\":{\"xyz.radicle.project\":{\"defaultBranch\":\"master\",\"description\":\"\",\"name\":\"gen\"}},\"threshold\":1}\x01\x00\x00\x00\x00\x00\x00\x01U\x01\xfd8fZqk\xc6\xe2\x1e\x89\x85|\xe1\xce\xf9&\x8f\x03\x9e\xbc\x00\x00\x00\x04\x01\x00\x00\x00htree 987758bc72ff96748c522f361580e36fa2500cd2\nauthor a <a@b> 0 +0000\ncommitter a <a@b> 0 +0000\n\nsigrefs\n\x03\x00\x00\x00;b1ff3dd5533f3275a83636b43d14c1d29c4410a1 refs/heads/master\n\x02\x00\x00\x00E100644 refs\x00\x81\xc7Px\xf1d\xa4(\xbe\xaa\x81\xfb\xf5\x9bu\xba-\xebq\x8c100644 signature\x00\xd8Q\xfbP\x19>\x05^\xb7\xc6\xc4\x80\xbf\x12O\xb0Tk\xb9\x0e\x03\x00\x00\x00@\x01\x01\x01\x01\x01\x01\x01\x01\x01\x01\x01\x01\x01\x01\x01\x01\x01\x01\x01\x01\x01\x01\x01\x01\x01\x01\x01\x01\x01\x01\x01\x01\x01\x01\x01\x01\x01\x01\x01\x01\x01\x01\x01\x01\x01\x01\x01\x01\x01\x01\x01\x01\x01\x01\x01\x01\x01\x01\x01\x01\x01\x01\x01\x01\x01\x00\x00\x00\x00\x00\x00\x00\xa9\x01\xfd8fZqk\xc6\xe2\x1e\x89\x85|\xe1\xce\xf9&\x8f\x03\x9e\xbc\x00\x00\x00\x03\x01\x00\x00\x00btree fe3f515f9d89179e3a8c7a392b1f55f01bec6568\nauthor a <a@b> 0 +0000\ncommitter a <a@b> 0 +0000\n\n1\n\x03\x00\x00\x00\x021\n\x02\x00\x00\x00\x1d100644 n\x00\xd0\x04\x91\xfd~[\xb6\xfa(\xc5\x17\xa0\xbb2\xb8\xb5\x06S\x9dM\x01\x00\x00\x00\x00\x00\x00\x00_\x02\xfd8fZqk\xc6\xe2\x1e\x89\x85|\xe1\xce\xf9&\x8f\x03\x9e\xbc)~ \xc3\xfa\xf7\xe3\xb6\xc6k#\xdd=\x17\x08\x0e\xda\x0c\xab\xc9\x00\x01\x01\x01\x01\x01\x01\x01\x01\x01\x01\x01\x01\x01\x01\x01\x01\x01\x01\x01\x01\x01\x01\x01\x01\x01\x01\x01\x01\x01\x01\x01\x01\x01O2R`\xb7\xe9\xa3\x83\xb8\xb3Y\xe1\x9c\xb6E\x18\xda\x19\xeb<\x00";
+// More entries than any store of these tests has.
+const MOST_ENTRIES: u32 = 64;
 
-// What a run is handed beside its words.
+const INIT: &[&str] = &["init", "store"];
+
+const IMPORT: &[&str] = &["import", "store", "keyring", "bundle"];
+
+const SHOW: &[&str] = &["show", "store", "keyring"];
+
+const HEADS: &[&str] = &["heads", "store", "keyring"];
+
+const AUDIT: &[&str] = &["audit", "store", "keyring"];
+
+const IMPORTED: &str = "job 158d3d14e60647fc73f5f587b36e55c6a078e90b done
+id first 8d4fd11244a1f322e3d7ff9b76e5df6fc41b9725
+remote 1111111111111111111111111111111111111111111111111111111111111111 advanced 99415aa28f0e5b34eae2502b09860562ffec8822
+remote 2222222222222222222222222222222222222222222222222222222222222222 advanced 46f7822451c9f15cb17ab253484a6de1442c9192
+remote 3333333333333333333333333333333333333333333333333333333333333333 advanced 12f4708876d6999837d2e1be737259ff90492682
+head at 32a308da3fcefe1e0e7eea78d89ab58a5207fdef
+";
+
+const SHOWN: &str = "repo 158d3d14e60647fc73f5f587b36e55c6a078e90b
+id 8d4fd11244a1f322e3d7ff9b76e5df6fc41b9725
+remote 1111111111111111111111111111111111111111111111111111111111111111 99415aa28f0e5b34eae2502b09860562ffec8822 20
+remote 2222222222222222222222222222222222222222222222222222222222222222 46f7822451c9f15cb17ab253484a6de1442c9192 1
+remote 3333333333333333333333333333333333333333333333333333333333333333 12f4708876d6999837d2e1be737259ff90492682 1
+";
+
+const HEAD: &str =
+    "158d3d14e60647fc73f5f587b36e55c6a078e90b at 32a308da3fcefe1e0e7eea78d89ab58a5207fdef\n";
+
+const AGAIN: &str = "job 158d3d14e60647fc73f5f587b36e55c6a078e90b done
+id same 8d4fd11244a1f322e3d7ff9b76e5df6fc41b9725
+remote 1111111111111111111111111111111111111111111111111111111111111111 same
+remote 2222222222222222222222222222222222222222222222222222222222222222 same
+remote 3333333333333333333333333333333333333333333333333333333333333333 same
+head at 32a308da3fcefe1e0e7eea78d89ab58a5207fdef
+";
+
+// What a run is handed.
 #[derive(Clone, Copy)]
 struct Given<'a> {
+    words: &'a [&'a str],
     store: &'a [u8],
     keyring: &'a [u8],
-    // What stands behind the bundle in its file.
-    behind: &'a [u8],
+    bundle: &'a [u8],
     piece: usize,
     disk_fails: &'a [u64],
     keys_fails: &'a [u64],
@@ -28,10 +63,11 @@ struct Given<'a> {
 }
 
 const GIVEN: Given<'static> = Given {
+    words: IMPORT,
     store: MADE,
-    keyring: KEYRING,
-    behind: &[],
-    piece: 1,
+    keyring: &[],
+    bundle: &[],
+    piece: 65_536,
     disk_fails: &[],
     keys_fails: &[],
     input_fails: &[],
@@ -42,7 +78,7 @@ const GIVEN: Given<'static> = Given {
 #[derive(Drop)]
 struct Left {
     status: Status,
-    store: Vec<u8>,
+    disk: MemDisk,
     report: Vec<u8>,
 }
 
@@ -54,185 +90,352 @@ fn words_of(alloc: Global, texts: &[&str]) -> Result<Vec<String>, Fail> {
     Ok(words)
 }
 
-fn run(alloc: Global, given: &Given<'_>) -> Result<Left, Fail> {
-    let words = words_of(alloc, &["import", "store", "keyring", "bundle"])?;
-    let piece = given.piece.max(1);
+fn run(alloc: Global, handed: &Given<'_>) -> Result<Left, Fail> {
+    let words = words_of(alloc, handed.words)?;
+    let piece = handed.piece.max(1);
     let mut disk = MemDisk::new(
         alloc,
-        given.store.to_vec(alloc)?,
-        given.disk_fails.to_vec(alloc)?,
+        handed.store.to_vec(alloc)?,
+        handed.disk_fails.to_vec(alloc)?,
     );
     let mut keys = MemSource::new(
-        given.keyring.to_vec(alloc)?,
+        handed.keyring.to_vec(alloc)?,
         piece,
-        given.keys_fails.to_vec(alloc)?,
+        handed.keys_fails.to_vec(alloc)?,
     );
-    let mut bundle = bundle_in(alloc, &[0, 1, 2, 3])?;
-    bundle.extend_from_slice(given.behind)?;
-    let mut input = MemSource::new(bundle, piece, given.input_fails.to_vec(alloc)?);
-    let mut out = MemSink::new(alloc, given.sink_fails.to_vec(alloc)?);
+    let mut input = MemSource::new(
+        handed.bundle.to_vec(alloc)?,
+        piece,
+        handed.input_fails.to_vec(alloc)?,
+    );
+    let mut out = MemSink::new(alloc, handed.sink_fails.to_vec(alloc)?);
     let status = run_local(alloc, &words, &mut disk, &mut keys, &mut input, &mut out);
     Ok(Left {
         status,
-        store: disk.bytes().to_vec(alloc)?,
+        disk,
         report: out.bytes().to_vec(alloc)?,
     })
 }
 
-// Where the journal of a store ends.
-fn end_of(alloc: Global, store: &[u8]) -> Result<usize, Fail> {
+// A run over what was made of a repository.
+fn run_on<'a>(
+    alloc: Global,
+    made: &'a Made,
+    words: &'a [&'a str],
+    store: &'a [u8],
+) -> Result<Left, Fail> {
+    let handed = Given {
+        words,
+        store,
+        keyring: made.keyring.as_slice(),
+        bundle: made.bundle.as_slice(),
+        ..GIVEN
+    };
+    run(alloc, &handed)
+}
+
+// How many bodies a journal has, or none where the bytes are no journal.
+fn entries_in(alloc: Global, store: &[u8]) -> Result<Option<usize>, Fail> {
     let disk = MemDisk::new(alloc, store.to_vec(alloc)?, Vec::new(alloc));
-    match Journal::open(disk) {
-        Ok(journal) => Ok(usize::try_from(journal.end())?),
-        Err(_) => Err("the store does not open")?,
+    let Ok(mut journal) = Journal::open(disk) else {
+        return Ok(None);
+    };
+    let mut body = Vec::new(alloc);
+    let mut place = 8;
+    let mut count = 0_usize;
+    for _ in 0..MOST_ENTRIES {
+        if let Ok(Some(next)) = journal.scan(place, &mut body) {
+            place = next;
+            count = count.saturating_add(1);
+        }
     }
+    Ok(Some(count))
 }
 
 #[test]
-fn a_bundle_is_imported_in_pieces_of_any_size(rt: HostRuntime) -> Result<(), Fail> {
-    for piece in [1, 7, 65_536] {
-        let left = run(rt.alloc(), &Given { piece, ..GIVEN })?;
-        assert_eq!(rt; left.status, Status::Ok, "in pieces of {piece}");
-        assert_eq!(rt; left.store.as_slice(), JOURNAL);
-        assert_eq!(rt; left.report.as_slice(), REPORT);
+fn words_are_read(rt: HostRuntime) -> Result<(), Fail> {
+    let cases: [(&[&str], Option<Command>); 12] = [
+        (INIT, Some(Command::Init)),
+        (IMPORT, Some(Command::Import)),
+        (SHOW, Some(Command::Show)),
+        (HEADS, Some(Command::Heads)),
+        (AUDIT, Some(Command::Audit)),
+        (&[], None),
+        (&["init"], None),
+        (&["init", ""], None),
+        (&["init", "store", "more"], None),
+        (&["heads", "store"], None),
+        (&["import", "store", "", "bundle"], None),
+        (&["Show", "store", "keyring"], None),
+    ];
+    for (texts, command) in &cases {
+        let words = words_of(rt.alloc(), texts)?;
+        assert_eq!(rt; command_of(&words), *command);
+        if command.is_none() {
+            let handed = Given {
+                words: texts,
+                ..GIVEN
+            };
+            let left = run(rt.alloc(), &handed)?;
+            assert_eq!(rt; left.status, Status::Usage);
+            assert_eq!(rt; left.disk.calls(), 0);
+            assert!(rt; left.report.is_empty());
+        }
     }
     Ok(())
 }
 
-// A whole file takes two calls of its source, the second of which finds the end.
+// A repository of three delegates is taken into a store, and each command is run on it.
+#[test]
+fn each_command_prints_its_report(rt: HostRuntime) -> Result<(), Fail> {
+    let alloc = rt.alloc();
+    let made = fixture(alloc)?;
+    let cases: [(&[&str], Status, &str); 9] = [
+        (SHOW, Status::Unmade, ""),
+        (INIT, Status::Ok, "made\n"),
+        (IMPORT, Status::Ok, IMPORTED),
+        (SHOW, Status::Ok, SHOWN),
+        (HEADS, Status::Ok, HEAD),
+        (
+            AUDIT,
+            Status::Ok,
+            "entries 4 repositories 1 remotes 3 objects 617 announcements 0\n",
+        ),
+        (IMPORT, Status::Ok, AGAIN),
+        (
+            AUDIT,
+            Status::Ok,
+            "entries 8 repositories 1 remotes 3 objects 617 announcements 0\n",
+        ),
+        (INIT, Status::AlreadyMade, ""),
+    ];
+    let mut store = Vec::new(alloc);
+    for (words, status, report) in &cases {
+        let left = run_on(alloc, &made, words, &store)?;
+        assert_eq!(rt; left.status, *status);
+        assert_eq!(rt; left.report.as_slice(), report.as_bytes());
+        store = left.disk.bytes().to_vec(alloc)?;
+    }
+    Ok(())
+}
+
+// The place of a broken bundle does not depend on how its bytes are cut. A bundle that is broken
+// behind its end has all its entries in the store.
+#[test]
+fn a_broken_bundle_is_told_by_its_place(rt: HostRuntime) -> Result<(), Fail> {
+    let alloc = rt.alloc();
+    let made = bundle_of(alloc, 1)?;
+    let bundle = made.bundle.as_slice();
+    let end = bundle.len();
+    let mut longer = bundle.to_vec(alloc)?;
+    longer.push(0)?;
+    let cases: [(&[u8], usize, usize); 5] = [
+        (&longer, end, 4),
+        (&bundle[..end.saturating_sub(1)], end.saturating_sub(4), 2),
+        (&bundle[..end.min(20)], 20, 0),
+        (&bundle[..end.min(19)], 0, 0),
+        (&[], 0, 0),
+    ];
+    for piece in [1, 7, 65_536] {
+        for (bytes, place, entries) in &cases {
+            let handed = Given {
+                keyring: made.keyring.as_slice(),
+                bundle: bytes,
+                piece,
+                ..GIVEN
+            };
+            let left = run(alloc, &handed)?;
+            assert_eq!(rt;
+                left.status,
+                Status::InputBad(*place as u64),
+                "in pieces of {piece}"
+            );
+            assert_eq!(rt; entries_in(alloc, left.disk.bytes())?, Some(*entries));
+            assert!(rt; left.report.is_empty());
+        }
+    }
+    Ok(())
+}
+
+#[test]
+fn each_refusal_has_its_status(rt: HostRuntime) -> Result<(), Fail> {
+    let alloc = rt.alloc();
+    let made = bundle_of(alloc, 1)?;
+    let good = Given {
+        keyring: made.keyring.as_slice(),
+        bundle: made.bundle.as_slice(),
+        ..GIVEN
+    };
+    let left = run(alloc, &good)?;
+    assert_eq!(rt; left.status, Status::Ok);
+    let full = left.disk.bytes();
+    let damaged = &full[..full.len().saturating_sub(1)];
+    let cases = [
+        (Given { store: &[], ..good }, Status::Unmade),
+        (
+            Given {
+                store: b"\x01radjrx\x01\x00",
+                ..good
+            },
+            Status::Damaged(0),
+        ),
+        (
+            Given {
+                words: AUDIT,
+                store: full.get(..9).unwrap_or(&[]),
+                ..good
+            },
+            Status::Damaged(8),
+        ),
+        (
+            Given {
+                keyring: b"own 61\nname\n",
+                ..good
+            },
+            Status::KeyringBad(2),
+        ),
+        (
+            Given {
+                keyring: &[],
+                ..good
+            },
+            Status::SomeRefused,
+        ),
+        (
+            Given {
+                words: SHOW,
+                store: full,
+                keyring: &[],
+                ..good
+            },
+            Status::NotLegal(4),
+        ),
+        (
+            Given {
+                words: INIT,
+                store: full,
+                ..good
+            },
+            Status::AlreadyMade,
+        ),
+    ];
+    for (handed, status) in &cases {
+        let left = run(alloc, handed)?;
+        assert_eq!(rt; left.status, *status);
+        if *status != Status::SomeRefused {
+            assert_eq!(rt; left.disk.bytes(), handed.store);
+            assert!(rt; left.report.is_empty());
+        }
+    }
+    assert!(rt; entries_in(alloc, damaged)?.is_none());
+    Ok(())
+}
+
+// A file takes two calls of its source, the second of which finds the end.
 #[test]
 fn a_failing_call_is_told(rt: HostRuntime) -> Result<(), Fail> {
     let alloc = rt.alloc();
-    let piece = 65_536;
+    let made = bundle_of(alloc, 1)?;
+    let good = Given {
+        keyring: made.keyring.as_slice(),
+        bundle: made.bundle.as_slice(),
+        ..GIVEN
+    };
     for call in [0, 1] {
         let fails = [call];
-        let given = Given {
-            piece,
+        let keys = Given {
             keys_fails: &fails,
-            ..GIVEN
+            ..good
         };
-        let left = run(alloc, &given)?;
-        assert_eq!(rt;
-            left.status,
-            Status::ReadFault(WhichSource::Keys),
-            "at call {call}"
-        );
-        assert_eq!(rt; left.store.as_slice(), MADE);
-        let given = Given {
-            piece,
+        let left = run(alloc, &keys)?;
+        assert_eq!(rt; left.status, Status::ReadFault(WhichSource::Keys));
+        assert_eq!(rt; left.disk.calls(), 0);
+        let input = Given {
             input_fails: &fails,
-            ..GIVEN
+            ..good
         };
-        let left = run(alloc, &given)?;
-        assert_eq!(rt;
-            left.status,
-            Status::ReadFault(WhichSource::Input),
-            "at call {call}"
-        );
-        assert_eq!(rt; left.store.as_slice(), MADE);
+        let left = run(alloc, &input)?;
+        assert_eq!(rt; left.status, Status::ReadFault(WhichSource::Input));
+        assert!(rt; left.report.is_empty());
     }
     let left = run(
         alloc,
         &Given {
             sink_fails: &[0],
-            ..GIVEN
+            ..good
         },
     )?;
     assert_eq!(rt; left.status, Status::WriteFault);
-    assert_eq!(rt; left.store.as_slice(), JOURNAL);
+    assert_eq!(rt; entries_in(alloc, left.disk.bytes())?, Some(4));
     assert!(rt; left.report.is_empty());
     Ok(())
 }
 
-// Each call of the disk fails in turn: four calls for each entry, and those of the opening.
+// Each call of the disk fails in turn: those of the opening, and four for each of the four entries.
 #[test]
 fn a_failing_disk_leaves_a_front_of_the_entries(rt: HostRuntime) -> Result<(), Fail> {
     let alloc = rt.alloc();
-    let mut failed = 0_u32;
-    for call in 0..64 {
+    let made = fixture(alloc)?;
+    let good = Given {
+        keyring: made.keyring.as_slice(),
+        bundle: made.bundle.as_slice(),
+        ..GIVEN
+    };
+    let calls = run(alloc, &good)?.disk.calls();
+    let opening = calls.saturating_sub(16);
+    for call in 0..calls {
         let left = run(
             alloc,
             &Given {
                 disk_fails: &[call],
-                ..GIVEN
+                ..good
             },
         )?;
-        if left.status == Status::Ok {
-            assert_eq!(rt; left.store.as_slice(), JOURNAL);
-            continue;
-        }
         assert_eq!(rt; left.status, Status::DiskFault, "at call {call}");
         assert!(rt; left.report.is_empty());
-        let end = end_of(alloc, &left.store)?;
-        assert_eq!(rt; left.store.get(..end), JOURNAL.get(..end), "at call {call}");
-        failed = failed.saturating_add(1);
-    }
-    assert_eq!(rt; failed, 20);
-    Ok(())
-}
-
-#[test]
-fn what_is_not_form_one_is_left_alone(rt: HostRuntime) -> Result<(), Fail> {
-    let alloc = rt.alloc();
-    let mut other = KEYRING.to_vec(alloc)?;
-    other.as_mut_slice()[200] = b'2';
-    let cases = [
-        Given {
-            behind: &[0],
-            ..GIVEN
-        },
-        Given {
-            keyring: &other,
-            ..GIVEN
-        },
-        Given {
-            store: JOURNAL,
-            ..GIVEN
-        },
-        Given {
-            store: b"\x01radjrn\x01",
-            ..GIVEN
-        },
-        Given {
-            store: b"\x01radjrx\x01\x00",
-            ..GIVEN
-        },
-    ];
-    for given in &cases {
-        let left = run(alloc, given)?;
-        assert_eq!(rt; left.status, Status::Unbuilt);
-        assert_eq!(rt; left.store.as_slice(), given.store);
-        assert!(rt; left.report.is_empty());
+        let acknowledged = call.saturating_sub(opening) / 4;
+        let entries = entries_in(alloc, left.disk.bytes())?;
+        let Some(entries) = entries else {
+            return Err("the store does not open")?;
+        };
+        assert!(rt;
+            entries as u64 == acknowledged || entries as u64 == acknowledged + 1,
+            "at call {call}"
+        );
     }
     Ok(())
 }
 
-// A file of 70,000 bytes is read to one byte past the limit. Wrong words read nothing.
+// Whatever a crash makes of a write that was not synced, the store opens with every entry that was
+// acknowledged before it, and at most one more.
 #[test]
-fn no_more_is_read_than_is_wanted(rt: HostRuntime) -> Result<(), Fail> {
+fn a_crash_keeps_what_was_acknowledged(rt: HostRuntime) -> Result<(), Fail> {
     let alloc = rt.alloc();
-    let cases = [
-        (
-            words_of(alloc, &["import", "store", "keyring", "bundle"])?,
-            65_537 % 251,
-        ),
-        (words_of(alloc, &["import", "store", "keyring"])?, 0),
-        (words_of(alloc, &["import", "store", "", "bundle"])?, 0),
-    ];
-    for (words, next) in &cases {
-        let mut long = Vec::new(alloc);
-        for number in 0..70_000_u32 {
-            long.push((number % 251) as u8)?;
+    let made = fixture(alloc)?;
+    let good = Given {
+        keyring: made.keyring.as_slice(),
+        bundle: made.bundle.as_slice(),
+        ..GIVEN
+    };
+    let disk = run(alloc, &good)?.disk;
+    let calls = disk.calls();
+    let opening = calls.saturating_sub(16);
+    for call in 0..=calls {
+        let acknowledged = call.saturating_sub(opening) / 4;
+        for fill in [Fill::Old, Fill::New, Fill::Byte(0), Fill::Byte(1)] {
+            let image = disk.crash(alloc, call, fill)?;
+            let audited = run(
+                alloc,
+                &Given {
+                    words: AUDIT,
+                    store: &image,
+                    ..good
+                },
+            )?;
+            assert_eq!(rt; audited.status, Status::Ok, "at call {call}");
+            let entries = entries_in(alloc, &image)?.unwrap_or(0) as u64;
+            assert!(rt; entries == acknowledged || entries == acknowledged + 1);
         }
-        let mut disk = MemDisk::new(alloc, MADE.to_vec(alloc)?, Vec::new(alloc));
-        let mut keys = MemSource::new(long, 4_096, Vec::new(alloc));
-        let mut input = MemSource::new(Vec::new(alloc), 1, Vec::new(alloc));
-        let mut out = MemSink::new(alloc, Vec::new(alloc));
-        let status = run_local(alloc, words, &mut disk, &mut keys, &mut input, &mut out);
-        assert_eq!(rt; status, Status::Unbuilt);
-        let mut byte = [0; 1];
-        assert_eq!(rt; keys.take(&mut byte), Ok(1));
-        assert_eq!(rt; u32::from(byte[0]), *next);
     }
     Ok(())
 }

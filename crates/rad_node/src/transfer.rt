@@ -1,5 +1,5 @@
 // Whole files from sources, and whole texts to sinks.
-ghost use Rattle.std.specs.Prelude.{◌≡◌, ◌≤◌, ◌<◌, length, IfOk, IfSome, OnOk, IsErrOf};
+ghost use Rattle.std.specs.Prelude.{◌≡◌, ◌≤◌, ◌<◌, ◌^◌, length, IfOk, IfSome, OnOk, IsErrOf};
 ghost use Rattle.std.specs.Io.KnownBytes.{Appends, IsAtEnd};
 ghost use Rattle.rad_base.specs.Faults.{Rose};
 ghost use Rattle.rad_outside.specs.Causes.{HasCause};
@@ -9,15 +9,15 @@ ghost use Rattle.rad_node.specs.declared.transfer.ReadFault.TheVariants.{NoMemor
 use rad_outside::{Failed, Sink, Source};
 use std::alloc::{AllocError, Global};
 
-/// The most bytes that a keyring file or a bundle may have.
-pub(crate) const MOST: usize = 65536;
+/// The most bytes that are asked of a source at once.
+const PIECE: usize = 65536;
 
 /// Why a file is not read.
 #[derive(Clone, Copy, Debug, PartialEq, Eq)]
 pub(crate) enum ReadFault {
     /// A take failed.
     Failed,
-    /// There are more bytes than `MOST`.
+    /// There are more bytes than the limit.
     TooLong,
     /// Memory was refused.
     NoMemory,
@@ -31,22 +31,27 @@ impl From<AllocError> for ReadFault {
     }
 }
 
-/// All bytes that a source has left. It takes one byte more than `MOST` at the most. `Failed` where
-/// a take failed, `TooLong` where more than `MOST` bytes are left, `NoMemory` where memory was
-/// refused.
-pub(crate) fn read_all<S: Source>(alloc: Global, source: &mut S) -> Result<Vec<u8>, ReadFault>
+/// All bytes that a source has left, taken in pieces of at most 64 KiB. It takes one byte more than
+/// the limit at the most. `Failed` where a take failed, `TooLong` where more bytes than the limit
+/// are left, `NoMemory` where memory was refused.
+pub(crate) fn read_all<S: Source>(
+    alloc: Global,
+    source: &mut S,
+    limit: usize,
+) -> Result<Vec<u8>, ReadFault>
+    requires { limit < 2 ^ 62 }
     ensures later { S.faults source.old ≤ S.faults source.new }
     ensures failed { IsErrOf result ReadFault.Failed
         → Rose (S.faults source.old) (S.faults source.new) }
     ensures bytes { IfOk result (λ all. IfSome (S.left source.old) (λ bytes. all.items ≡ bytes)) }
-    ensures few { IfOk result (λ all. length all.items ≤ 65536) }
+    ensures few { IfOk result (λ all. length all.items ≤ limit) }
     ensures too_long { IsErrOf result ReadFault.TooLong
-        → IfSome (S.left source.old) (λ bytes. 65536 < length bytes) }
+        → IfSome (S.left source.old) (λ bytes. limit < length bytes) }
 {
     let mut all = Vec::new(alloc);
-    let mut piece = zeros(alloc, MOST + 1)?;
-    'taking: while all.len() <= MOST {
-        let room = MOST + 1 - all.len();
+    let mut piece = zeros(alloc, PIECE)?;
+    'taking: while all.len() <= limit {
+        let room = (limit - all.len()).min(PIECE - 1) + 1;
         let n = take_more(source, &mut piece[..room], &mut all)?;
         if n == 0 {
             return Ok(all);

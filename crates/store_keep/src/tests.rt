@@ -1,7 +1,7 @@
 // Each call of a keep over a store of four entries.
 mod journal;
 
-ghost use Rattle.std.specs.Prelude.{IfOk, IsSome, IsTrue};
+ghost use Rattle.std.specs.Prelude.{◌≡◌, IfOk, IsSome, IsTrue};
 ghost use Rattle.rad_base.specs.declared.names.Rid.{Rid};
 ghost use Rattle.repo_entries.specs.Batches.{IsBatch};
 ghost use Rattle.object_store.specs.Held.{IsUnclaimed, held_at};
@@ -79,6 +79,7 @@ fn has_identity(store: &Store<MemDisk>, rid: &Rid) -> bool
 // Whether the canonical head of a repository is at a commit.
 fn has_head(keep: &mut StoreKeep<MemDisk>, rid: &Rid) -> bool
     requires { IsTrue ((constants_of keep.old).stands rid.now) }
+    ensures { constants_of keep.new ≡ constants_of keep.old }
 {
     if !has_identity(keep.store(), rid) {
         return false;

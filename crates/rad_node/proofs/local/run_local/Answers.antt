@@ -1,6 +1,26 @@
-use Rattle.rad_node.proofs.NoForms.{no_form}
+use Rattle.std.proofs.Common.{◌≡◌, MutBor, rules, subst, ap, ◌∙◌}
+use Rattle.rad_node.specs.Runs.{OnlyReadsDisk}
+use Rattle.rad_node.specs.declared.command.Command.{Command}
+use Rattle.rad_node.proofs.Commanding.{one_command, ordered_more}
 use Rattle.rad_node.proofs.local.run_local.Goals as goal
 
-pub returns-clause-unbuilt : goal.returns-clause-unbuilt
-returns-clause-unbuilt g c = λ unbuilt.
-    no_form c.args.words.now _ _ _ _ _ c.in-Ok.ensures.bytes c.deref.ensures.value (c.import-status.ensures.unbuilt unbuilt)
+pub returns-clause-order : goal.returns-clause-order
+returns-clause-order g c = λ command says.
+    let same : c.disk-1.given.0 ≡ c.run_command-status.result.1.now = search rules in
+    rw (one_command c.args.words.now command c.in-Some.command says c.in-Some.ensures.some)
+    (ordered_more c.in-Some.command c.run_command-status.result.0 _ _ _ _ (λ e. same ∙ ap (λ (d : MutBor g.row.D.Denot). d.now) e) c.run_command-status.ensures.order)
+
+pub returns-clause-said : goal.returns-clause-said
+returns-clause-said g c = λ command says.
+    rw (one_command c.args.words.now command c.in-Some.command says c.in-Some.ensures.some) c.run_command-status.ensures.said
+
+pub returns-clause-kept : goal.returns-clause-kept
+returns-clause-kept g c = λ command says only.
+    let same : c.disk-1.given.0 ≡ c.run_command-status.result.1.now = search rules in
+    rw same (c.run_command-status.ensures.kept
+    (subst (λ (k : Command). OnlyReadsDisk k c.run_command-status.result.0) (one_command c.args.words.now command c.in-Some.command says c.in-Some.ensures.some) only))
+
+pub returns-clause-done : goal.returns-clause-done
+returns-clause-done g c = λ command says.
+    let same : c.disk-1.given.0 ≡ c.run_command-status.result.1.now = search rules in
+    rw (one_command c.args.words.now command c.in-Some.command says c.in-Some.ensures.some) (rw same c.run_command-status.ensures.done)

@@ -1,0 +1,203 @@
+-- What an import is, by how its job ended and how the run ended.
+use Rattle.std.proofs.Common.{◌≡◌, ◌⊎◌, ◌↔◌, Bool, ℕ, List, [], ◌∷◌, ◌++◌, ⊎_elim, Option, None, Some, inl, inr, refl, sym, ap, ◌∙◌, subst}
+use Rattle.std.specs.Prelude.{IfSome, IsTrue}
+use Rattle.rad_base.proofs.Conditions.{differ}
+use Rattle.rad_base.specs.declared.names.Nid.{Nid}
+use Rattle.rad_base.specs.declared.names.Rid.{Rid}
+use Rattle.ref_journal.specs.Frames.{gate_behind}
+use Rattle.ref_journal.specs.Images.{IsLeft}
+use Rattle.repo_entries.specs.Items.{Item}
+use Rattle.repo_slice.specs.Keeps.{IsStopped}
+use Rattle.repo_slice.specs.declared.keep_fault.KeepFault.{KeepFault}
+use Rattle.repo_slice.specs.declared.keep_fault.KeepFault.TheVariants as fault
+use Rattle.repo_slice.specs.declared.outcomes.Outcome.{Outcome}
+use Rattle.repo_slice.specs.declared.outcomes.Outcome.TheVariants as outcome
+use Rattle.legal_history.specs.Durable.{durable_part}
+use Rattle.object_store.specs.Bodies.{bodies_of, body_in_doubt}
+use Rattle.object_store.specs.declared.store.Store.{Store}
+use Rattle.store_keep.specs.Made.{IsImageOf, IsMade, ReopensLegal}
+use Rattle.store_keep.proofs.Claimless.{no_claims_durable}
+use Rattle.store_keep.proofs.Imaging.{image_legal, image_of}
+use Rattle.fetch_stages.specs.declared.job_end.ImportEnd.{ImportEnd}
+use Rattle.fetch_stages.specs.declared.job_end.ImportEnd.TheVariants as import
+use Rattle.fetch_stages.specs.declared.job_end.JobEnd.{JobEnd}
+use Rattle.fetch_stages.specs.declared.job_end.JobEnd.TheVariants as job
+use Rattle.report_texts.specs.Texts.{job_text}
+use Rattle.rad_node.specs.Imports.{AreTaken, Imported, IsBadInput, IsImportReport, IsJobReportEnd, IsMadeOf, IsRefusedEnd, IsRefusing, IsStatusOf, IsTaken, IsTaking, IsWholeRun, TellsEnd, fault_of, importing, report_of}
+use Rattle.rad_node.specs.Jobs.{HasRun, IsEndCaused}
+use Rattle.rad_node.specs.Runs.{HasReport, IsReportEnd}
+use Rattle.rad_node.specs.Statuses.{Files}
+use Rattle.rad_node.specs.declared.status.Status.{Status}
+use Rattle.rad_node.specs.declared.status.Status.TheVariants as status
+use Rattle.rad_node.specs.declared.status.WhichSource.TheVariants as source
+use Rattle.rad_node.proofs.Running.{all_made, if_told}
+
+left_end : (bodies : List (List ℕ)) (doubt : Option (List ℕ)) (end : ℕ) (bytes : List ℕ) → IsLeft bodies doubt end bytes → end ≡ gate_behind bodies
+left_end bodies None end bytes h = h.begins.place_is
+left_end bodies (Some body) end bytes h = h.begins.place_is
+
+-- the journal ends behind what is durable
+made_end : {D : Type 0} (reads : D → Option (List ℕ)) (images : D → List ℕ → Type 0) (store : Store D) (items : List Item) → IsMade reads images store items
+    → store.journal.end ≡ gate_behind (bodies_of (durable_part items))
+made_end reads images store items m =
+    let same : durable_part items ≡ durable_part m.core.items = ap durable_part m.entries ∙ no_claims_durable m.core.items in
+    left_end (bodies_of (durable_part m.core.items)) (body_in_doubt m.core.doubt) store.journal.end m.disk.tells.bytes m.disk.tells.has
+    ∙ ap (λ (l : List Item). gate_behind (bodies_of l)) (sym same)
+
+-- a report of a job's end has the end of a run that reports it
+pub job_report_end : (end : JobEnd) (refused : Bool) (out : Type 0) (s : Status) → (IsTrue refused ↔ IsRefusedEnd end) → IsReportEnd refused out s
+    → IsJobReportEnd end out s
+job_report_end end refused out s iff (inl x) = inl (x.0, λ r. differ refused (iff.1 r) x.1)
+job_report_end end refused out s iff (inr (inl x)) = inr (inl (x.0, iff.0 x.1))
+job_report_end end refused out s iff (inr (inr x)) = inr (inr (inl x))
+
+-- a run with a report took the bundle to where its job stopped
+whole_report : (s : Status) → HasReport s → IsWholeRun s
+whole_report status.Ok r = tt
+whole_report status.Usage r = absurd r
+whole_report (status.ReadFault which) r = absurd r
+whole_report status.WriteFault r = tt
+whole_report status.DiskFault r = absurd r
+whole_report status.Unmade r = absurd r
+whole_report (status.Damaged place) r = absurd r
+whole_report (status.KeyringBad line) r = absurd r
+whole_report (status.InputBad place) r = absurd r
+whole_report status.SomeRefused r = tt
+whole_report status.Full r = absurd r
+whole_report (status.NotLegal n) r = absurd r
+whole_report status.AlreadyMade r = absurd r
+whole_report (status.Changed change) r = absurd r
+whole_report status.NoMemory r = absurd r
+
+-- the place that a status tells
+one_place : (place other : ℕ) → status.InputBad place ≡ status.InputBad other → place ≡ other
+one_place place other e = cc e
+
+-- no remote was refused, since it is not so that one was
+taken_or_not : (o : Outcome) → (IsTaken o) ⊎ (IsTaken o → ⊥)
+taken_or_not outcome.OutOfScope = inl tt
+taken_or_not outcome.Same = inl tt
+taken_or_not outcome.Stale = inl tt
+taken_or_not (outcome.Missing oid) = inr (λ h. h)
+taken_or_not (outcome.BadObject oid) = inr (λ h. h)
+taken_or_not outcome.BadSigrefs = inr (λ h. h)
+taken_or_not outcome.NotAccepted = inr (λ h. h)
+taken_or_not outcome.Grafted = inr (λ h. h)
+taken_or_not outcome.Forked = inr (λ h. h)
+taken_or_not (outcome.Incomplete oid) = inr (λ h. h)
+taken_or_not outcome.Crowded = inr (λ h. h)
+taken_or_not outcome.Advanced = inl tt
+
+all_taken : (outcomes : List (Nid × Outcome)) → ((AreTaken outcomes → ⊥) → ⊥) → AreTaken outcomes
+all_taken [] free = tt
+all_taken (remote ∷ outcomes) free = ⊎_elim
+    (λ (one : IsTaken remote.1). (one, all_taken outcomes (λ bars. free (λ h. bars h.1))))
+    (λ (none : IsTaken remote.1 → ⊥). absurd (free (λ h. none h.0))) (taken_or_not remote.1)
+
+module _ {D : Type 0} (reads : D → Option (List ℕ)) (images : D → List ℕ → Type 0) (files : Files) (store : Store D) (at_end out : Type 0)
+    (consumed gives : List ℕ → Type 0) where
+  imported_by : (s : Status) (result : ImportEnd) (h : HasRun reads images files consumed at_end store result) → (IsWholeRun s → h.unread ≡ [])
+      → ((place : ℕ) → s ≡ status.InputBad place → IsBadInput at_end h.came place) → (s ≡ status.Ok → IsTaking at_end h.came)
+      → (s ≡ status.SomeRefused → IsRefusing at_end h.came) → IsMadeOf (fault_of s) h.rid store.journal.end h.entries h.history
+      → (HasReport s → (text : List ℕ) × IsImportReport store.keyring h.came h.rid text × gives text)
+      → Imported files consumed at_end (images store.journal.disk) gives s
+  imported_by s result h whole bad ok refused made report =
+      let all = h.stored ++ h.history in
+      record {
+        keyring = store.keyring;
+        stored = h.stored;
+        good = h.good;
+        bytes = h.bytes;
+        unread = h.unread;
+        took = h.took;
+        whole = whole;
+        entries = h.entries;
+        came = h.came;
+        job = h.job;
+        bad = bad;
+        ok = ok;
+        refused = refused;
+        rid = h.rid;
+        named = h.named;
+        end = store.journal.end;
+        history = h.history;
+        made = made;
+        end_is = if_told (λ bytes. IsMade reads images store all) (λ bytes. store.journal.end ≡ gate_behind (bodies_of (durable_part all))) files.store
+            (λ bytes m. made_end reads images store all m) h.store_has;
+        images_are = if_told (λ bytes. IsMade reads images store all) (λ bytes. (image : List ℕ) → images store.journal.disk image → IsImageOf all image) files.store
+            (λ bytes m. image_of reads images store all m) h.store_has;
+        legal = if_told (λ bytes. IsMade reads images store all) (λ bytes. (image : List ℕ) → images store.journal.disk image → ReopensLegal store.keyring image)
+            files.store (λ bytes m. image_legal reads images store all m) h.store_has;
+        report = report;
+      }
+
+  -- the run reports how the job ended
+  reported : (s : Status) (result : ImportEnd) (h : HasRun reads images files consumed at_end store result) (end : JobEnd) → h.unread ≡ []
+      → TellsEnd (importing store.keyring) h.came h.rid end → h.history ≡ h.entries → ((IsRefusedEnd end → ⊥) → IsTaking at_end h.came)
+      → (IsRefusedEnd end → IsRefusing at_end h.came) → IsJobReportEnd end out s → (HasReport s → gives (job_text h.rid end))
+      → Imported files consumed at_end (images store.journal.disk) gives s
+  reported s result h end none tells all taking refusing (inl x) gave =
+      subst (λ (t : Status). Imported files consumed at_end (images store.journal.disk) gives t) (sym x.0)
+      (imported_by status.Ok result h (λ w. none) (λ place e. absurd (cc e)) (λ e. taking x.1) (λ e. absurd (cc e)) all
+      (λ r. (job_text h.rid end, record { end = end; tells = tells; written = refl }, gave (subst HasReport (sym x.0) tt))))
+  reported s result h end none tells all taking refusing (inr (inl x)) gave =
+      subst (λ (t : Status). Imported files consumed at_end (images store.journal.disk) gives t) (sym x.0)
+      (imported_by status.SomeRefused result h (λ w. none) (λ place e. absurd (cc e)) (λ e. absurd (cc e)) (λ e. refusing x.1) all
+      (λ r. (job_text h.rid end, record { end = end; tells = tells; written = refl }, gave (subst HasReport (sym x.0) tt))))
+  reported s result h end none tells all taking refusing (inr (inr (inl x))) gave =
+      subst (λ (t : Status). Imported files consumed at_end (images store.journal.disk) gives t) (sym x.0)
+      (imported_by status.WriteFault result h (λ w. none) (λ place e. absurd (cc e)) (λ e. absurd (cc e)) (λ e. absurd (cc e)) all
+      (λ r. (job_text h.rid end, record { end = end; tells = tells; written = refl }, gave (subst HasReport (sym x.0) tt))))
+  reported s result h end none tells all taking refusing (inr (inr (inr x))) gave =
+      subst (λ (t : Status). Imported files consumed at_end (images store.journal.disk) gives t) (sym x)
+      (imported_by status.NoMemory result h (λ w. none) (λ place e. absurd (cc e)) (λ e. absurd (cc e)) (λ e. absurd (cc e))
+      (all_made h.rid store.journal.end h.entries h.history all) (λ r. absurd r))
+
+  -- a call of the store was refused
+  stopped : (s : Status) (why : KeepFault) (result : ImportEnd) (h : HasRun reads images files consumed at_end store result)
+      → IsStopped h.rid 1 store.journal.end h.entries why h.history → fault_of s ≡ Some why → (IsWholeRun s → ⊥)
+      → Imported files consumed at_end (images store.journal.disk) gives s
+  stopped s why result h made e bars =
+      imported_by s result h (λ w. absurd (bars w)) (λ place f. absurd (bars (subst IsWholeRun (sym f) tt))) (λ f. absurd (bars (subst IsWholeRun (sym f) tt)))
+      (λ f. absurd (bars (subst IsWholeRun (sym f) tt))) (subst (λ (o : Option KeepFault). IsMadeOf o h.rid store.journal.end h.entries h.history) (sym e) made)
+      (λ r. absurd (bars (whole_report s r)))
+
+  pub imported : (s : Status) (result : ImportEnd) → (input disk : Type 0) → IsEndCaused input disk result
+      → HasRun reads images files consumed at_end store result → IsStatusOf out result s → (HasReport s → IfSome (report_of result) gives)
+      → Imported files consumed at_end (images store.journal.disk) gives s
+  imported s (import.Ended of (job.Done judged head)) input disk c h x gave =
+      let tells = h.made.1 in
+      reported s (import.Ended of (job.Done judged head)) h (job.Done judged head) (h.whole tt) tells h.made.3
+      (λ free. subst (IsTaking at_end) (sym tells.1) (all_taken judged.outcomes free, h.made.2))
+      (λ bars. subst (IsRefusing at_end) (sym tells.1) (bars, h.made.2)) x
+      (λ r. subst (λ (q : Rid). gives (job_text q (job.Done judged head))) h.made.0 (gave r))
+  imported s (import.Ended of (job.Refused why)) input disk c h x gave =
+      let tells = h.made.1 in
+      reported s (import.Ended of (job.Refused why)) h (job.Refused why) (h.whole tt) tells h.made.3 (λ free. absurd (free tt))
+      (λ bars. subst (IsRefusing at_end) (sym tells.1) h.made.2) x
+      (λ r. subst (λ (q : Rid). gives (job_text q (job.Refused why))) h.made.0 (gave r))
+  imported s (import.Ended of job.TooLong) input disk c h x gave =
+      reported s (import.Ended of job.TooLong) h job.TooLong (h.whole tt) h.made.1 h.made.2 (λ free. absurd (free tt))
+      (λ bars. subst (IsRefusing at_end) (sym h.made.1) tt) x
+      (λ r. subst (λ (q : Rid). gives (job_text q job.TooLong)) h.made.0 (gave r))
+  imported s (import.Ended of job.DiskFault) input disk c h x gave =
+      subst (λ (t : Status). Imported files consumed at_end (images store.journal.disk) gives t) (sym x)
+      (stopped status.DiskFault fault.DiskFault (import.Ended of job.DiskFault) h h.made refl (λ w. w))
+  imported s (import.Ended of job.Full) input disk c h x gave =
+      subst (λ (t : Status). Imported files consumed at_end (images store.journal.disk) gives t) (sym x)
+      (stopped status.Full fault.Full (import.Ended of job.Full) h h.made refl (λ w. w))
+  imported s (import.Ended of (job.Changed change)) input disk c h x gave = absurd c
+  imported s (import.Ended of job.NoMemory) input disk c h x gave =
+      subst (λ (t : Status). Imported files consumed at_end (images store.journal.disk) gives t) (sym x)
+      (stopped status.NoMemory fault.NoMemory (import.Ended of job.NoMemory) h h.made refl (λ w. w))
+  imported s import.ReadFault input disk c h x gave =
+      subst (λ (t : Status). Imported files consumed at_end (images store.journal.disk) gives t) (sym x)
+      (imported_by (status.ReadFault source.Input) import.ReadFault h (λ w. absurd w) (λ place e. absurd (cc e)) (λ e. absurd (cc e)) (λ e. absurd (cc e)) h.made
+      (λ r. absurd r))
+  imported s (import.InputBad place) input disk c h x gave =
+      subst (λ (t : Status). Imported files consumed at_end (images store.journal.disk) gives t) (sym x)
+      (imported_by (status.InputBad place) (import.InputBad place) h (λ w. h.whole tt)
+      (λ other e. subst (IsBadInput at_end h.came) (one_place place other e) h.made.0) (λ e. absurd (cc e)) (λ e. absurd (cc e)) h.made.1 (λ r. absurd r))
+  imported s import.NoMemory input disk c h x gave =
+      subst (λ (t : Status). Imported files consumed at_end (images store.journal.disk) gives t) (sym x)
+      (stopped status.NoMemory fault.NoMemory import.NoMemory h h.made refl (λ w. w))

@@ -1,0 +1,15 @@
+use Rattle.rad_base.specs.Faults.{Rose}
+use Rattle.rad_node.proofs.Openings.{has_opened, opening_fault}
+use Rattle.rad_node.proofs.opening.open_store.Goals as goal
+
+pub returns-in-Ok-open-clause-opened : goal.returns-in-Ok-open-clause-opened
+returns-in-Ok-open-clause-opened g c =
+    has_opened g.D.Disk.reads_as g.D.Disk.images (g.S.Source.left c.args.keys.now) (g.D.Disk.reads_as c.args.disk) c.in-Ok.keyring c.in-Ok-open.store
+    c.in-Ok.ensures.keyring c.in-Ok-open.ensures.stands c.in-Ok-open.ensures.opened
+
+pub returns-in-Err-open-clause-refused : goal.returns-in-Err-open-clause-refused
+returns-in-Err-open-clause-refused g c =
+    rw c.status_at.ensures (opening_fault (g.S.Source.left c.args.keys.now) (g.D.Disk.reads_as c.args.disk) c.in-Ok.keyring
+    (Rose (g.S.Source.faults c.args.keys.now) (g.S.Source.faults c.read_keyring.new.keys))
+    (Rose (g.D.Disk.faults c.args.disk) (g.D.Disk.faults c.in-Err-open.fault.disk)) c.in-Err-open.fault.why c.in-Ok.ensures.keyring
+    (λ e. c.in-Err-open.ensures.cause e) c.in-Err-open.ensures.opened)

@@ -1,0 +1,28 @@
+-- What each command did.
+use Rattle.std.specs.Prelude.{◌⊎◌, ℕ, List, codes}
+use Rattle.rad_node.specs.Imports.{Imported}
+use Rattle.rad_node.specs.Printing.{Printed}
+use Rattle.rad_node.specs.Runs.{HasReport, IsMadeStore}
+use Rattle.rad_node.specs.Statuses.{Files, IsOpeningEnd}
+use Rattle.rad_node.specs.declared.command.Command.{Command}
+use Rattle.rad_node.specs.declared.command.Command.TheVariants as command
+use Rattle.rad_node.specs.declared.printing.Report.TheVariants.{Show, Heads, Audit}
+use Rattle.rad_node.specs.declared.status.Status.{Status}
+use Rattle.rad_node.specs.declared.status.Status.TheVariants.{DiskFault, NoMemory}
+
+-- an import that ends so may not have opened its store
+abbrev pub MayBeUnopened : Status → Type 0
+MayBeUnopened DiskFault = Unit {0}
+MayBeUnopened NoMemory = Unit {0}
+MayBeUnopened other = IsOpeningEnd other
+
+-- An empty store was made; a bundle was imported, or the store was not opened, and it and the bundle are as before; or a report of
+-- what the store has was given.
+abbrev pub IsDone : Command → Files → (List ℕ → Type 0) → Type 0 → (List ℕ → Type 0) → (List ℕ → Type 0) → Type 0 → Status → Type 0
+IsDone command.Init files consumed at_end images gives kept status =
+    HasReport status → IsMadeStore files.store images × gives (codes "made\n")
+IsDone command.Import files consumed at_end images gives kept status =
+    Imported files consumed at_end images gives status ⊎ (MayBeUnopened status × kept)
+IsDone command.Show files consumed at_end images gives kept status = HasReport status → Printed Show files gives
+IsDone command.Heads files consumed at_end images gives kept status = HasReport status → Printed Heads files gives
+IsDone command.Audit files consumed at_end images gives kept status = HasReport status → Printed Audit files gives
