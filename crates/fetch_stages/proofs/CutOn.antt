@@ -27,10 +27,18 @@ makes_place : (waiting : List Object) (o : Object)
 makes_place [] o = ([], [], inl (refl, refl, inl refl))
 makes_place (w ∷ ws) o = elim (within_or_not ((w ∷ ws) ++ o ∷ [])) [
   | inl within ↦ ([], w ∷ ws, inl (refl, refl, inr within))
-  | inr past ↦ ((w ∷ ws) ∷ [], [], inr (refl, refl, λ place. elim place [
-    | inl none ↦ not_nothing w ws none
-    | inr within ↦ past within
-  ]))
+  | inr past ↦ (
+    (w ∷ ws) ∷ [],
+    [],
+    inr (
+      refl,
+      refl,
+      λ place. elim place [
+        | inl none ↦ not_nothing w ws none
+        | inr within ↦ past within
+      ],
+    ),
+  )
 ]
 
 -- more objects join

@@ -320,14 +320,17 @@ module _ {K : Type 0} (made : K → List Item → Type 0) (held : K → Rid → 
         bytes = t.used;
         unread = after;
         uses = uses_here t.used after t.uses;
-        stops = tried_within t.used batches why t.within ([], inr (record {
-          head = w.head;
-          objects = w.objects;
-          section = w.section;
-          batches = batches ++ [];
-          cut = rw more (subst (λ (os : List Object). IsCut os batches) w.objects_are cut);
-          made = refl;
-        })) s;
+        stops = tried_within t.used batches why t.within (
+          [],
+          inr (record {
+            head = w.head;
+            objects = w.objects;
+            section = w.section;
+            batches = batches ++ [];
+            cut = rw more (subst (λ (os : List Object). IsCut os batches) w.objects_are cut);
+            made = refl;
+          }),
+        ) s;
       }
 
   stops_kept : (why : KeepFault) → Stops (stops.Keep why) → Next (stop.Keep why)

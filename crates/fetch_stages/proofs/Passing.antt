@@ -213,9 +213,9 @@ module _ {K : Type 0} (made : K → List Item → Type 0) (held : K → Rid → 
           makes_along made a b c p.entries entries p.entered n.stops.3,
           elim n.stops.4 [
             | inl x ↦
-              let few = x.1 in
-              let all : length (p.bytes ++ n.bytes) ≤ 2 ^ 30 = omega (arith, size, count, few, within) in
-              inl (limited_few (length (p.bytes ++ n.bytes)) begins found x.0 all, all, x.2)
+                let few = x.1 in
+                let all : length (p.bytes ++ n.bytes) ≤ 2 ^ 30 = omega (arith, size, count, few, within) in
+                inl (limited_few (length (p.bytes ++ n.bytes)) begins found x.0 all, all, x.2)
             | inr x ↦ inr (x.0, ap (λ (f : JobStop). limited (length (p.bytes ++ n.bytes)) f) x.1)
           ],
           n.stops.5,
@@ -245,48 +245,48 @@ module _ {K : Type 0} (made : K → List Item → Type 0) (held : K → Rid → 
       }
   stops_by (stop.Keep why) offer is choose n = elim n.stops.1 [
     | inl x ↦
-      let p = passed offer is in
-      let entries = n.stops.0 in
-      record {
-        bytes = p.bytes ++ n.bytes;
-        unread = n.unread;
-        uses = uses_along l l' l'' before p.bytes between n.bytes n.unread p.uses n.uses;
-        entries = p.entries ++ entries;
-        found = limited (length (p.bytes ++ n.bytes)) x.0;
-        job = job_of made held constants rid start a b c offer which more place l l' l'' before between n.unread p n.bytes entries x.0 (inl x.1);
-        ends = stops_behind made rid constants.caller end a b c p.entries entries why p.entered n.stops.2;
-      }
+        let p = passed offer is in
+        let entries = n.stops.0 in
+        record {
+          bytes = p.bytes ++ n.bytes;
+          unread = n.unread;
+          uses = uses_along l l' l'' before p.bytes between n.bytes n.unread p.uses n.uses;
+          entries = p.entries ++ entries;
+          found = limited (length (p.bytes ++ n.bytes)) x.0;
+          job = job_of made held constants rid start a b c offer which more place l l' l'' before between n.unread p n.bytes entries x.0 (inl x.1);
+          ends = stops_behind made rid constants.caller end a b c p.entries entries why p.entered n.stops.2;
+        }
     | inr w ↦
-      let o = choose w.head w.section.is_head in
-      let p = passed o.0 o.1 in
-      let entries = n.stops.0 in
-      let new : Held = record { state = p.on.state; objects = put_told p.on.objects w.objects } in
-      let tail = runs_none constants rid o.0 more new (place_behind place (take (2 ^ 30 - place) n.bytes) []) in
-      record {
-        bytes = p.bytes ++ n.bytes;
-        unread = n.unread;
-        uses = uses_along l l' l'' before p.bytes between n.bytes n.unread p.uses n.uses;
-        entries = p.entries ++ entries;
-        found = limited (length (p.bytes ++ n.bytes)) tail.0;
-        job = job_of made held constants rid start a b c o.0 which more place l l' l'' before between n.unread p n.bytes entries tail.0
-            (inr (
-              new,
-              [],
-              entries,
-              [],
-              record {
-                objects = w.objects;
-                section = subst (λ (head : Part). Sections (take (2 ^ 30 - place) n.bytes) which head w.objects []) o.2 w.section;
-                batches = w.batches;
-                cut = w.cut;
-                made = w.made;
-                held = refl;
-              },
-              tail.1,
-              sym (append-nil entries),
-            ));
-        ends = stops_behind made rid constants.caller end a b c p.entries entries why p.entered n.stops.2;
-      }
+        let o = choose w.head w.section.is_head in
+        let p = passed o.0 o.1 in
+        let entries = n.stops.0 in
+        let new : Held = record { state = p.on.state; objects = put_told p.on.objects w.objects } in
+        let tail = runs_none constants rid o.0 more new (place_behind place (take (2 ^ 30 - place) n.bytes) []) in
+        record {
+          bytes = p.bytes ++ n.bytes;
+          unread = n.unread;
+          uses = uses_along l l' l'' before p.bytes between n.bytes n.unread p.uses n.uses;
+          entries = p.entries ++ entries;
+          found = limited (length (p.bytes ++ n.bytes)) tail.0;
+          job = job_of made held constants rid start a b c o.0 which more place l l' l'' before between n.unread p n.bytes entries tail.0
+              (inr (
+                new,
+                [],
+                entries,
+                [],
+                record {
+                  objects = w.objects;
+                  section = subst (λ (head : Part). Sections (take (2 ^ 30 - place) n.bytes) which head w.objects []) o.2 w.section;
+                  batches = w.batches;
+                  cut = w.cut;
+                  made = w.made;
+                  held = refl;
+                },
+                tail.1,
+                sym (append-nil entries),
+              ));
+          ends = stops_behind made rid constants.caller end a b c p.entries entries why p.entered n.stops.2;
+        }
   ]
 
   -- the job stops

@@ -22,37 +22,40 @@ returns-in-Err-clause-job g c = λ on slice.
 
 pub returns-in-Err-fill-clause-job : goal.returns-in-Err-fill-clause-job
 returns-in-Err-fill-clause-job g c = λ on slice.
-    let keep = g.K.Keep in
-    (c.in-Ok.verdict,
-    enters keep.made (keep.constants c.args.keep.now) c.args.rid.now (keep.end c.install.new.self) c.args.keep.now
-    c.install.new.self on (keep.held c.args.keep.now c.args.rid.now) c.args.offered.now.offer c.args.offered.now.used slice
-    c.in-Ok.verdict c.in-Ok.verdict refl c.in-Ok.ensures.verdict c.in-Ok.ensures.entered)
+    let keep = g.K.Keep in (
+      c.in-Ok.verdict,
+      enters keep.made (keep.constants c.args.keep.now) c.args.rid.now (keep.end c.install.new.self) c.args.keep.now
+          c.install.new.self on (keep.held c.args.keep.now c.args.rid.now) c.args.offered.now.offer c.args.offered.now.used slice
+          c.in-Ok.verdict c.in-Ok.verdict refl c.in-Ok.ensures.verdict c.in-Ok.ensures.entered,
+    )
 
 pub returns-else-is_empty-clause-job : goal.returns-else-is_empty-clause-job
 returns-else-is_empty-clause-job g c = λ on slice.
-    let keep = g.K.Keep in
-    (c.in-Ok.verdict,
-    enters keep.made (keep.constants c.args.keep.now) c.args.rid.now (keep.end c.install.new.self) c.args.keep.now
-    c.install.new.self on (keep.held c.args.keep.now c.args.rid.now) c.args.offered.now.offer c.args.offered.now.used slice
-    c.in-Ok.verdict c.in-Ok.verdict refl c.in-Ok.ensures.verdict c.in-Ok.ensures.entered,
-    refl,
-    subst (λ (l : List ℕ). 0 < length l) c.rest-rest.ensures
-    (some_left c.rest-rest.result.now c.is_empty.result c.is_empty.ensures c.if-is_empty.false))
+    let keep = g.K.Keep in (
+      c.in-Ok.verdict,
+      enters keep.made (keep.constants c.args.keep.now) c.args.rid.now (keep.end c.install.new.self) c.args.keep.now
+          c.install.new.self on (keep.held c.args.keep.now c.args.rid.now) c.args.offered.now.offer c.args.offered.now.used slice
+          c.in-Ok.verdict c.in-Ok.verdict refl c.in-Ok.ensures.verdict c.in-Ok.ensures.entered,
+      refl,
+      subst (λ (l : List ℕ). 0 < length l) c.rest-rest.ensures
+          (some_left c.rest-rest.result.now c.is_empty.result c.is_empty.ensures c.if-is_empty.false),
+    )
 
 pub returns-in-Err-verdict-clause-job : goal.returns-in-Err-verdict-clause-job
 returns-in-Err-verdict-clause-job g c = λ on slice.
     let keep = g.K.Keep in
     let none : c.fill.new.self.1 ≡ [] = sym c.rest-rest.ensures
-    ∙ none_left c.rest-rest.result.now c.is_empty.result c.is_empty.ensures c.if-is_empty.true in
-    (refl,
-    enters keep.made (keep.constants c.args.keep.now) c.args.rid.now (keep.end c.install.new.self) c.args.keep.now
-    c.install.new.self on (keep.held c.args.keep.now c.args.rid.now) c.args.offered.now.offer c.args.offered.now.used slice
-    c.in-Ok.verdict (Err c.in-Err-verdict.why) c.in-Err-verdict.is c.in-Ok.ensures.verdict c.in-Ok.ensures.entered,
-    none,
-    c.in_default.ensures.end none,
-    refused_on on (keep.held c.args.keep.now c.args.rid.now) (keep.held c.install.new.self c.args.rid.now) c.in-Err-verdict.why slice
-    (subst (λ (v : Result Judged Whole). HeldBehind (keep.held c.args.keep.now c.args.rid.now) v (keep.held c.install.new.self c.args.rid.now))
-    c.in-Err-verdict.is c.in-Ok.ensures.slice))
+    ∙ none_left c.rest-rest.result.now c.is_empty.result c.is_empty.ensures c.if-is_empty.true in (
+      refl,
+      enters keep.made (keep.constants c.args.keep.now) c.args.rid.now (keep.end c.install.new.self) c.args.keep.now
+          c.install.new.self on (keep.held c.args.keep.now c.args.rid.now) c.args.offered.now.offer c.args.offered.now.used slice
+          c.in-Ok.verdict (Err c.in-Err-verdict.why) c.in-Err-verdict.is c.in-Ok.ensures.verdict c.in-Ok.ensures.entered,
+      none,
+      c.in_default.ensures.end none,
+      refused_on on (keep.held c.args.keep.now c.args.rid.now) (keep.held c.install.new.self c.args.rid.now) c.in-Err-verdict.why slice
+          (subst (λ (v : Result Judged Whole). HeldBehind (keep.held c.args.keep.now c.args.rid.now) v (keep.held c.install.new.self c.args.rid.now))
+          c.in-Err-verdict.is c.in-Ok.ensures.slice),
+    )
 
 pub returns-in-Ok-verdict-clause-job : goal.returns-in-Ok-verdict-clause-job
 returns-in-Ok-verdict-clause-job g c = λ on slice.
