@@ -6,13 +6,17 @@ pub mod Finishing
 pub mod Fronts
 pub mod Holding
 pub mod Importing
+pub mod JobFronts
+pub mod JobRuns
 pub mod Joining
 pub mod Naming
 pub mod Next
 pub mod OneCut
+pub mod OneRefusal
 pub mod Parts
 pub mod Passing
 pub mod Reading
+pub mod SectionFronts
 pub mod Told
 pub mod WholeSections
 pub mod Windows
