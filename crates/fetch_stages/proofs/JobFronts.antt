@@ -1,6 +1,6 @@
 -- The run of a job on a front of its bytes, and on all of them.
 use Rattle.std.proofs.Common.{◌≡◌, ◌⊎◌, ◌+◌, ◌-◌, ℕ, List, [], ◌∷◌, ◌++◌, length, inl, inr, refl, sym, ap, ◌∙◌, subst, arith, append_assoc}
-use Rattle.std.proofs.lemmas.List.{append-nil, length-append, map-append}
+use Rattle.std.proofs.lemmas.List.{append-nil, length-append, map-append, nil_from_length}
 use Rattle.std.proofs.lemmas.List.Concat.{flat_map-append}
 use Rattle.rad_base.specs.declared.offer.Offer.{Offer}
 use Rattle.commit_graph.specs.Objects.{Object, ObjectMap}
@@ -58,9 +58,26 @@ puts_read s offer which more held place bytes all whole (inr r) = (
   r.6 ∙ ap (λ (l : List Item). l ++ r.3) r.4.made,
 )
 
--- a run that stops early on a front: all entries begin with its entries, and its stop stays
+-- A run that stops early on a front: all entries begin with its entries. Where its stop stays, it has the same run
+-- on all bytes.
 abbrev pub StopsFirst : List ℕ → List Item → List Item → JobStop → JobStop → Type 0
-StopsFirst more entries all stop whole = BeginWith all entries × (Stays more stop → whole ≡ stop)
+StopsFirst more entries all stop whole = BeginWith all entries × (Stays more stop → (all ≡ entries) × (whole ≡ stop))
+
+-- two lists that begin with one another are one
+pub both_begin : {X : Type 0} (xs ys a b : List X) → xs ≡ ys ++ a → ys ≡ xs ++ b → xs ≡ ys
+both_begin {X} xs ys a b e f =
+    let size = ap (λ (l : List X). length l) e ∙ length-append ys a in
+    let count = ap (λ (l : List X). length l) f ∙ length-append xs b in
+    let none : a ≡ [] = nil_from_length a (omega (arith, size, count)) in
+    e ∙ ap (λ (l : List X). ys ++ l) none ∙ append-nil ys
+
+-- objects of which some wait are put in one way
+one_open_cut : (objects waiting others : List Object) (puts those : List (List Object)) → IsOpenCut objects puts waiting
+    → IsOpenCut objects those others → puts ≡ those
+one_open_cut objects waiting others puts those f g =
+    let p = fronts_are_put_first objects [] waiting puts those f (inl (others, subst (λ (l : List Object). IsOpenCut l those others) (sym (append-nil objects)) g)) in
+    let q = fronts_are_put_first objects [] others those puts g (inl (waiting, subst (λ (l : List Object). IsOpenCut l puts waiting) (sym (append-nil objects)) f)) in
+    both_begin puts those q.0 p.0 q.1 p.1
 
 begins_so : (s : Setting) (puts rest : List (List Object)) (batches : List (List Object)) (later entries all : List Item)
     → entries ≡ puts_in s puts → batches ≡ puts ++ rest → all ≡ puts_in s batches ++ later → all ≡ entries ++ (puts_in s rest ++ later)
@@ -70,12 +87,33 @@ begins_so s puts rest batches later entries all e f g =
     ∙ append_assoc (puts_in s puts) (puts_in s rest) later
     ∙ ap (λ (l : List Item). l ++ (puts_in s rest ++ later)) (sym e)
 
+-- what stops early stops so whatever follows
+early_stays : (s : Setting) (which : Which) (place : ℕ) (front more : List ℕ) (entries : List Item) (stop : JobStop)
+    → StopsEarly s which place front entries stop → Stays more stop → StopsEarly s which place (front ++ more) entries stop
+early_stays s which place front more entries stop e stays = record {
+  parts = e.parts;
+  stops = stop_stays s.may_decline which place front more e.parts stop stays e.stops;
+  puts = e.puts;
+  waiting = e.waiting;
+  cut = e.cut;
+  made = e.made;
+}
+
+-- a section stops early in one way
+one_early : (s : Setting) (which : Which) (place : ℕ) (bytes : List ℕ) (these those : List Item) (stop other : JobStop)
+    → StopsEarly s which place bytes these stop → StopsEarly s which place bytes those other → (those ≡ these) × (other ≡ stop)
+one_early s which place bytes these those stop other e f =
+    let cut = one_open_cut (objects_among (read_of which bytes).items) f.waiting e.waiting f.puts e.puts
+    (early_cut s which place bytes those other f) (early_cut s which place bytes these stop e) in (
+      f.made ∙ ap (λ (l : List (List Object)). puts_in s l) cut ∙ sym e.made,
+      one_stop s.may_decline which place bytes f.parts e.parts other stop f.stops e.stops,
+    )
+
 stop_so : (s : Setting) (offer : Offer) (which : Which) (sections : List Which) (held : Held) (place : ℕ) (front more : List ℕ)
     (entries all : List Item) (stop whole : JobStop) → StopsEarly s which place front entries stop
-    → Runs s offer (which ∷ sections) held place (front ++ more) all whole → Stays more stop → whole ≡ stop
+    → Runs s offer (which ∷ sections) held place (front ++ more) all whole → Stays more stop → (all ≡ entries) × (whole ≡ stop)
 stop_so s offer which sections held place front more entries all stop whole e (inl f) stays =
-    one_stop s.may_decline which place (front ++ more) f.parts e.parts whole stop f.stops
-    (stop_stays s.may_decline which place front more e.parts stop stays e.stops)
+    one_early s which place (front ++ more) entries all stop whole (early_stays s which place front more entries stop e stays) f
 stop_so s offer which sections held place front more entries all stop whole e (inr r) stays =
     absurd (ends_or_stops s.may_decline offer which place (front ++ more) r.1 r.4.objects e.parts stop r.4.section
     (stop_stays s.may_decline which place front more e.parts stop stays e.stops))
@@ -183,7 +221,10 @@ compares_behind : (s : Setting) (offer : Offer) (old new : Held) (more : List �
     → puts ≡ puts_in s batches → these ≡ puts → entries ≡ puts ++ later → all ≡ these ++ others
     → Compares s offer new more later others stop whole → Compares s offer old more entries all stop whole
 compares_behind s offer old new more batches puts these later others entries all stop whole told made same e f (inl x) =
-    inl (begin_behind puts these later others entries all e same f x.0, x.1)
+    inl (begin_behind puts these later others entries all e same f x.0, λ stays. let r = x.1 stays in (same_behind r.0, r.1))
+  where
+    same_behind : others ≡ later → all ≡ entries
+    same_behind g = f ∙ ap (λ (l : List Item). l ++ others) same ∙ ap (λ (l : List Item). puts ++ l) g ∙ sym e
 compares_behind s offer old new more batches puts these later others entries all stop whole told made same e f (inr x) = inr (record {
   batches = batches ++ x.batches;
   on = x.on;

@@ -1,5 +1,5 @@
 -- Laws of the runs of jobs: of a front of the bytes, and of the same bytes.
-use Rattle.std.specs.Prelude.{◌≡◌, ℕ, List, [], ◌∷◌, ◌++◌, None, Result}
+use Rattle.std.specs.Prelude.{◌≡◌, ℕ, List, [], ◌∷◌, ◌++◌, length, None, Result}
 use Rattle.std.specs.List.{flat_map}
 use Rattle.rad_base.specs.declared.names.Rid.{Rid}
 use Rattle.rad_base.specs.declared.offer.Offer.{Offer}
@@ -8,7 +8,7 @@ use Rattle.repo_entries.specs.declared.whole.Whole.{Whole}
 use Rattle.repo_slice.specs.Keeps.{Constants, Held, IsVerdictOn}
 use Rattle.repo_slice.specs.declared.scope.Scope.{Scope}
 use Rattle.repo_slice.specs.declared.verdict.Judged.{Judged}
-use Rattle.fetch_stages.specs.Imports.{Came, IsBundleJob, IsNamedBy, Unjudged}
+use Rattle.fetch_stages.specs.Imports.{Bad, Came, Inside, IsBundleJob, IsNamedBy, Long, Unjudged, Verdict}
 use Rattle.fetch_stages.specs.Jobs.{Breaks, EndsIn, IsJob, JobStop, NotServed, Passed, Reaches, Setting, TooLong}
 
 -- the objects are told
@@ -25,6 +25,23 @@ IsPassed stop = (place : ℕ) × (stop ≡ Passed place)
 
 abbrev pub IsUnjudged : Came → Type 0
 IsUnjudged came = (rid : Rid) × (came ≡ Unjudged rid)
+
+-- the bytes end inside a unit
+abbrev pub IsInside : JobStop → Type 0
+IsInside stop = (place : ℕ) × (stop ≡ EndsIn place)
+
+abbrev pub IsInsideOf : Came → Type 0
+IsInsideOf came = (place : ℕ) × (came ≡ Inside place)
+
+-- where an import stands that came so by so many bytes, once these follow: a bundle that has ended is
+-- bad where they begin
+abbrev pub behind_came : ℕ → List ℕ → Came → Came
+behind_came count [] came = came
+behind_came count (byte ∷ more) (Bad place) = Bad place
+behind_came count (byte ∷ more) (Inside place) = Inside place
+behind_came count (byte ∷ more) (Verdict rid held verdict) = Bad count
+behind_came count (byte ∷ more) (Unjudged rid) = Unjudged rid
+behind_came count (byte ∷ more) (Long rid) = Long rid
 
 -- the entry of a put
 abbrev pub put_in : Item → List Item
@@ -102,3 +119,27 @@ abbrev pub OneBundleJob : Type 0
 OneBundleJob = (constants : Constants) (held : Rid → Held) (bytes : List ℕ) (these those : List Item) (came other : Came)
     → IsBundleJob constants held bytes these came → IsBundleJob constants held bytes those other → IsToldOf held bytes
     → (IsUnjudged came → ⊥) → (IsUnjudged other → ⊥) → (these ≡ those) × (came ≡ other)
+
+-- a job that does not end inside a unit stays as it is, whatever follows
+abbrev pub StopsStay : Type 0
+StopsStay = (s : Setting) (held : Held) (front more : List ℕ) (entries all : List Item) (stop whole : JobStop)
+    → IsJob s held front entries stop → IsJob s held (front ++ more) all whole → IsTold held
+    → (IsPassed stop → ⊥) → (IsPassed whole → ⊥) → (IsInside stop → ⊥) → (all ≡ entries) × (whole ≡ stop)
+
+-- up to its verdict it stays so in any case
+abbrev pub StopsStayUnjudged : Type 0
+StopsStayUnjudged = (s : Setting) (held : Held) (front more : List ℕ) (entries all : List Item) (stop whole : JobStop)
+    → IsJob s held front entries stop → IsJob s held (front ++ more) all whole → (IsInside stop → ⊥)
+    → (puts_among all ≡ puts_among entries) × (unjudged whole ≡ unjudged stop)
+
+-- the same of a bundle, but that bytes behind its end are bad
+abbrev pub BundleStopsStay : Type 0
+BundleStopsStay = (constants : Constants) (held : Rid → Held) (front more : List ℕ) (entries all : List Item) (came whole : Came)
+    → IsBundleJob constants held front entries came → IsBundleJob constants held (front ++ more) all whole
+    → IsToldOf held front → (IsUnjudged came → ⊥) → (IsUnjudged whole → ⊥) → (IsInsideOf came → ⊥)
+    → (all ≡ entries) × (whole ≡ behind_came (length front) more came)
+
+abbrev pub BundlePutsStay : Type 0
+BundlePutsStay = (constants : Constants) (held : Rid → Held) (front more : List ℕ) (entries all : List Item) (came whole : Came)
+    → IsBundleJob constants held front entries came → IsBundleJob constants held (front ++ more) all whole
+    → (IsInsideOf came → ⊥) → puts_among all ≡ puts_among entries

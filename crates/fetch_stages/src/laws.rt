@@ -1,6 +1,7 @@
 // Laws of batches, and of the runs of jobs.
 ghost use Rattle.fetch_stages.specs.Batches.{FrontsArePutFirst, OneCut};
 ghost use Rattle.fetch_stages.specs.JobLaws.{BundleFrontsEnterFirst, BundleFrontsPutFirst};
+ghost use Rattle.fetch_stages.specs.JobLaws.{BundlePutsStay, BundleStopsStay, StopsStay, StopsStayUnjudged};
 ghost use Rattle.fetch_stages.specs.JobLaws.{FrontsEnterFirst, FrontsPutFirst, OneBundleJob};
 ghost use Rattle.fetch_stages.specs.JobLaws.{OneBundlePuts, OneJob, OneJobUnjudged, OneVerdictOn};
 
@@ -46,4 +47,20 @@ pub fn one_job()
 pub fn one_bundle_job()
     ensures one { OneBundleJob }
     ensures puts { OneBundlePuts }
+{}
+
+/// A job that does not end inside a unit has the same entries and the same stop whatever follows its
+/// bytes, where the objects are told and something is said of the verdict. Up to the verdict this
+/// holds in any case.
+pub fn stops_of_jobs_stay()
+    ensures all { StopsStay }
+    ensures unjudged { StopsStayUnjudged }
+{}
+
+/// The job of a bundle whose bytes do not end inside a unit has the same entries whatever follows
+/// them, where the objects are told and something is said of the verdict. It stops at the same
+/// place; a bundle that has ended is bad where more bytes begin. The puts stay in any case.
+pub fn stops_of_bundles_stay()
+    ensures all { BundleStopsStay }
+    ensures puts { BundlePutsStay }
 {}
