@@ -17,6 +17,7 @@ pub mod Parts
 pub mod Passing
 pub mod Reading
 pub mod SectionFronts
+pub mod SomeJob
 pub mod Told
 pub mod WholeSections
 pub mod Windows

@@ -1,6 +1,7 @@
 -- Laws of the runs of jobs: of a front of the bytes, and of the same bytes.
 use Rattle.std.specs.Prelude.{◌≡◌, ℕ, List, [], ◌∷◌, ◌++◌, length, None, Result}
 use Rattle.std.specs.List.{flat_map}
+use Rattle.hex.specs.Hex.{IsBytes}
 use Rattle.rad_base.specs.declared.names.Rid.{Rid}
 use Rattle.rad_base.specs.declared.offer.Offer.{Offer}
 use Rattle.repo_entries.specs.Items.{Item, claim, install, missed, put, refused}
@@ -73,6 +74,16 @@ abbrev pub OneVerdictOn : Type 0
 OneVerdictOn = (constants : Constants) (held : Held) (offer : Offer) (scope : Scope) (these those : Result Judged Whole)
     → IsTold held → IsVerdictOn constants held offer scope these → IsVerdictOn constants held offer scope those
     → these ≡ those
+
+-- bytes have a job, of whose verdict nothing is said
+abbrev pub SomeJob : Type 0
+SomeJob = (s : Setting) (held : Held) (bytes : List ℕ) → IsBytes bytes
+    → (entries : List Item) × (stop : JobStop) × IsJob s held bytes entries stop
+
+-- the same of bundles
+abbrev pub SomeBundleJob : Type 0
+SomeBundleJob = (constants : Constants) (held : Rid → Held) (bytes : List ℕ) → IsBytes bytes
+    → (entries : List Item) × (came : Came) × IsBundleJob constants held bytes entries came
 
 -- what is put by a front of the bytes is put first by all of them
 abbrev pub FrontsPutFirst : Type 0

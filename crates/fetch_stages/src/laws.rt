@@ -4,6 +4,7 @@ ghost use Rattle.fetch_stages.specs.JobLaws.{BundleFrontsEnterFirst, BundleFront
 ghost use Rattle.fetch_stages.specs.JobLaws.{BundlePutsStay, BundleStopsStay, StopsStay, StopsStayUnjudged};
 ghost use Rattle.fetch_stages.specs.JobLaws.{FrontsEnterFirst, FrontsPutFirst, OneBundleJob};
 ghost use Rattle.fetch_stages.specs.JobLaws.{OneBundlePuts, OneJob, OneJobUnjudged, OneVerdictOn};
+ghost use Rattle.fetch_stages.specs.JobLaws.{SomeBundleJob, SomeJob};
 
 /// Objects are cut into batches in one way.
 pub fn one_cut()
@@ -19,6 +20,12 @@ pub fn fronts_are_put_first()
 /// one reason.
 pub fn one_verdict_on()
     ensures { OneVerdictOn }
+{}
+
+/// Bytes have a job, and so have those of a bundle. Nothing is said here of the verdict.
+pub fn bytes_have_a_job()
+    ensures job { SomeJob }
+    ensures bundle { SomeBundleJob }
 {}
 
 /// The entries of a job begin with those of a front of its bytes, where the objects are told and
