@@ -106,12 +106,12 @@ imports_stopped made constants end held rid a c l l' l'' between (stop.Keep faul
     (others (rid.0.0 ++ j.bytes) (named rid j.bytes name)))
 
 -- the bundle has no more bytes than its sections, or it has
-came_whole : (rid : Rid) (count place : ℕ) (on : Held) (verdict : Result Judged Whole) → count ≡ 20 + place
+pub came_whole : (rid : Rid) (count place : ℕ) (on : Held) (verdict : Result Judged Whole) → count ≡ 20 + place
     → came_of rid count (Reaches on verdict place) ≡ Verdict rid on verdict
 came_whole rid count place on verdict e =
     ap (λ (t : Bool). if t then Verdict rid on verdict else Bad (20 + place)) (eq-eqb count (20 + place) e)
 
-came_behind : (rid : Rid) (count place : ℕ) (on : Held) (verdict : Result Judged Whole) → 20 + place < count
+pub came_behind : (rid : Rid) (count place : ℕ) (on : Held) (verdict : Result Judged Whole) → 20 + place < count
     → came_of rid count (Reaches on verdict place) ≡ Bad (20 + place)
 came_behind rid count place on verdict more =
     ap (λ (t : Bool). if t then Verdict rid on verdict else Bad (20 + place)) (ne_eqb count (20 + place) (λ e. omega (arith, more, e)))

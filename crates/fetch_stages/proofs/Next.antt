@@ -70,6 +70,13 @@ over_holds [] s held h = h
 over_holds (b ∷ bytes) s held h =
     step_holds bytes b s held (is_over s) (judge s (held ++ b ∷ [])) (λ t keeps k. over_holds bytes t keeps k) h refl
 
+-- behind an end that is read nothing is held
+pub none_held : (which : Which) (bytes : List ℕ) (parts : List Part) (units : SectionUnits) (held rest : List ℕ)
+    → read_of which bytes ≡ record { items = parts; place = At units held rest } → is_over units ≡ true → held ≡ []
+unfolding OverHolds
+none_held which bytes parts units held rest reads over =
+    subst (λ (r : Reading SectionUnits Part Break). OverHolds r.place) reads (over_holds bytes (first_unit which) [] (λ x. refl)) over
+
 -- a section of a bundle is put
 pub puts_next : {K : Type 0} (made : K → List Item → Type 0) (held : K → Rid → Held) (rid : Rid) (caller : ℕ) (a b : K)
     (which : Which) (limit : ℕ) (l l' l'' : Option (List ℕ)) (before filled after : List ℕ) (section : Section)
@@ -122,8 +129,7 @@ tried_inside constants rid which place bytes parts units held false puts waiting
   ),
 )
 tried_inside constants rid which place bytes parts units held true puts waiting over reads fits bars cut =
-    let none : held ≡ [] = subst (λ (r : Reading SectionUnits Part Break). OverHolds r.place) reads
-    (over_holds bytes (first_unit which) [] (λ x. refl)) over in
+    let none = none_held which bytes parts units held [] reads over in
     let whole = subst (λ (h : List ℕ). read_of which bytes ≡ record { items = parts; place = At units h [] }) none reads in
     let s = read_whole which bytes parts fits (units, over, whole) bars in
     let c = cut_ended (objects_among parts) puts waiting cut in (

@@ -166,12 +166,12 @@ runs_none constants rid offer [] on place = (Passed place, inr (refl, refl))
 runs_none constants rid offer (which ∷ more) on place =
     (EndsIn (further place 0), inl (early_none constants rid which place [] refl))
 
-limited_few : (count begins : ℕ) (found : JobStop) → found ≡ EndsIn begins → count ≤ 2 ^ 30 → limited count found ≡ EndsIn begins
+pub limited_few : (count begins : ℕ) (found : JobStop) → found ≡ EndsIn begins → count ≤ 2 ^ 30 → limited count found ≡ EndsIn begins
 limited_few count begins found e few =
     ap (λ (x : JobStop). limited count x) e
     ∙ ap (λ (t : Bool). if t then TooLong else EndsIn begins) (le-ltb (2 ^ 30) count few)
 
-limited_many : (count begins : ℕ) → 2 ^ 30 < count → limited count (EndsIn begins) ≡ TooLong
+pub limited_many : (count begins : ℕ) → 2 ^ 30 < count → limited count (EndsIn begins) ≡ TooLong
 limited_many count begins many = ap (λ (t : Bool). if t then TooLong else EndsIn begins) (lt-ltb (2 ^ 30) count many)
 
 module _ {K : Type 0} (made : K → List Item → Type 0) (held : K → Rid → Held) (constants : Constants) (rid : Rid)

@@ -21,7 +21,7 @@ objects_mapped [] = refl
 objects_mapped (o ∷ objects) = ap (λ (l : List Object). o ∷ l) (objects_mapped objects)
 
 -- the objects among the parts of a section
-objects_of_parts : (w : Which) (head : Part) (objects : List Object) → IsHead w head → objects_among (parts_of head objects) ≡ objects
+pub objects_of_parts : (w : Which) (head : Part) (objects : List Object) → IsHead w head → objects_among (parts_of head objects) ≡ objects
 objects_of_parts which.Identity (part.Offer offer) objects h = objects_mapped objects
 objects_of_parts which.Identity part.SigsHead objects h = absurd h
 objects_of_parts which.Identity part.TipsHead objects h = absurd h

@@ -2,6 +2,7 @@ pub mod Batches
 pub mod BundleJobs
 pub mod Imports
 pub mod JobEnds
+pub mod JobLaws
 pub mod Jobs
 pub mod Pieces
 pub mod Puts

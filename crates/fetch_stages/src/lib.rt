@@ -22,6 +22,10 @@ pub use batcher::Batcher;
 pub use import::import_job;
 pub use input::{Input, piece_buffer};
 pub use job_end::{ImportEnd, JobEnd};
-pub use laws::{fronts_are_put_first, one_cut};
+pub use laws::{
+    bytes_have_a_job, fronts_are_put_first, fronts_of_bundles_enter_first,
+    fronts_of_jobs_enter_first, one_bundle_job, one_cut, one_job, one_verdict_on,
+    stops_of_bundles_stay, stops_of_jobs_stay,
+};
 pub use section::{Section, put_section};
 pub use section_stop::SectionStop;

@@ -1,0 +1,5 @@
+use Rattle.fetch_stages.proofs.OneRefusal.{one_verdict_on}
+use Rattle.fetch_stages.proofs.laws.one_verdict_on.Goals as goal
+
+pub returns : goal.returns
+returns c = one_verdict_on
