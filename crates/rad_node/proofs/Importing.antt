@@ -1,32 +1,39 @@
 -- What an import is, by how its job ended and how the run ended.
 use Rattle.std.proofs.Common.{◌≡◌, ◌⊎◌, ◌↔◌, Bool, ℕ, List, [], ◌∷◌, ◌++◌, ⊎_elim, Option, None, Some, inl, inr, refl, sym, ap, ◌∙◌, subst}
-use Rattle.std.specs.Prelude.{IfSome, IsTrue}
+use Rattle.std.specs.Prelude.{IfSome, IsSome, Contains, IsTrue, length}
 use Rattle.rad_base.proofs.Conditions.{differ}
 use Rattle.rad_base.specs.declared.names.Nid.{Nid}
 use Rattle.rad_base.specs.declared.names.Rid.{Rid}
 use Rattle.ref_journal.specs.Frames.{gate_behind}
 use Rattle.ref_journal.specs.Images.{IsLeft}
-use Rattle.repo_entries.specs.Items.{Item}
+use Rattle.keyring.specs.Contents.{Contents}
+use Rattle.repo_entries.specs.Items.{Item, claim, install, missed, put, refused}
 use Rattle.repo_slice.specs.Keeps.{IsStopped}
 use Rattle.repo_slice.specs.declared.keep_fault.KeepFault.{KeepFault}
 use Rattle.repo_slice.specs.declared.keep_fault.KeepFault.TheVariants as fault
 use Rattle.repo_slice.specs.declared.outcomes.Outcome.{Outcome}
 use Rattle.repo_slice.specs.declared.outcomes.Outcome.TheVariants as outcome
+use Rattle.repo_slice.specs.Heads.{IsHeadOf}
 use Rattle.legal_history.specs.Durable.{durable_part}
+use Rattle.legal_history.specs.Replays.{Standing, after_item, after_items, nothing_stands, replay, state_in}
 use Rattle.object_store.specs.Bodies.{bodies_of, body_in_doubt}
 use Rattle.object_store.specs.declared.store.Store.{Store}
-use Rattle.store_keep.specs.Made.{IsImageOf, IsMade, ReopensLegal}
+use Rattle.store_keep.specs.Made.{IsImageOf, IsMade, ReopensLegal, no_claims}
 use Rattle.store_keep.proofs.Claimless.{no_claims_durable}
 use Rattle.store_keep.proofs.Imaging.{image_legal, image_of}
 use Rattle.fetch_stages.specs.declared.job_end.ImportEnd.{ImportEnd}
 use Rattle.fetch_stages.specs.declared.job_end.ImportEnd.TheVariants as import
 use Rattle.fetch_stages.specs.declared.job_end.JobEnd.{JobEnd}
 use Rattle.fetch_stages.specs.declared.job_end.JobEnd.TheVariants as job
-use Rattle.report_texts.specs.Texts.{job_text}
-use Rattle.rad_node.specs.Imports.{AreTaken, Imported, IsBadInput, IsImportReport, IsJobReportEnd, IsMadeOf, IsRefusedEnd, IsRefusing, IsStatusOf, IsTaken, IsTaking, IsWholeRun, TellsEnd, fault_of, importing, report_of}
+use Rattle.store_reports.specs.Reports.{IsGeneratedReport}
+use Rattle.rad_node.specs.Imports.{AreTaken, Imported, IsBadInput, IsReported, TellsImport, TellsJob, IsJobReportEnd, IsMadeOf, IsRefusedEnd, IsRefusing, IsStatusOf, IsTaken, IsTaking, IsWholeRun, TellsEnd, fault_of, importing}
+use Rattle.std.specs.Io.KnownBytes.{Consumes, IsAtEnd}
+use Rattle.rad_vectors.specs.Generated.{generated}
+use Rattle.rad_vectors.specs.Repositories.{IsBundleOf}
+use Rattle.rad_node.specs.Generating.{ImportsGenerated}
 use Rattle.rad_node.specs.Jobs.{HasRun, IsEndCaused}
 use Rattle.rad_node.specs.Runs.{HasReport, IsReportEnd}
-use Rattle.rad_node.specs.Statuses.{Files}
+use Rattle.rad_node.specs.Statuses.{Files, generated_keyring}
 use Rattle.rad_node.specs.declared.status.Status.{Status}
 use Rattle.rad_node.specs.declared.status.Status.TheVariants as status
 use Rattle.rad_node.specs.declared.status.WhichSource.TheVariants as source
@@ -45,11 +52,11 @@ made_end reads images store items m =
     ∙ ap (λ (l : List Item). gate_behind (bodies_of l)) (sym same)
 
 -- a report of a job's end has the end of a run that reports it
-pub job_report_end : (end : JobEnd) (refused : Bool) (out : Type 0) (s : Status) → (IsTrue refused ↔ IsRefusedEnd end) → IsReportEnd refused out s
+pub job_report_end : (end : JobEnd) (some : Bool) (out : Type 0) (s : Status) → (IsTrue some ↔ IsRefusedEnd end) → IsReportEnd some out s
     → IsJobReportEnd end out s
-job_report_end end refused out s iff (inl x) = inl (x.0, λ r. differ refused (iff.1 r) x.1)
-job_report_end end refused out s iff (inr (inl x)) = inr (inl (x.0, iff.0 x.1))
-job_report_end end refused out s iff (inr (inr x)) = inr (inr (inl x))
+job_report_end end some out s iff (inl x) = inl (x.0, λ r. differ some (iff.1 r) x.1)
+job_report_end end some out s iff (inr (inl x)) = inr (inl (x.0, iff.0 x.1))
+job_report_end end some out s iff (inr (inr x)) = inr (inr (inl x))
 
 -- a run with a report took the bundle to where its job stopped
 whole_report : (s : Status) → HasReport s → IsWholeRun s
@@ -94,14 +101,43 @@ all_taken (remote ∷ outcomes) free = ⊎_elim
     (λ (one : IsTaken remote.1). (one, all_taken outcomes (λ bars. free (λ h. bars h.1))))
     (λ (none : IsTaken remote.1 → ⊥). absurd (free (λ h. none h.0))) (taken_or_not remote.1)
 
+-- claims change nothing of what stands
+claimless_replay : (rid : Rid) (s : Standing) (items : List Item) → after_items rid s (no_claims items) ≡ after_items rid s items
+claimless_replay rid s [] = refl
+claimless_replay rid s (claim of caller ∷ items) = claimless_replay rid s items
+claimless_replay rid s (put of batch caller ∷ items) = claimless_replay rid (after_item rid s (put of batch caller)) items
+claimless_replay rid s (install of id remotes caller ∷ items) = claimless_replay rid (after_item rid s (install of id remotes caller)) items
+claimless_replay rid s (missed of left caller ∷ items) = claimless_replay rid s items
+claimless_replay rid s (refused of why caller ∷ items) = claimless_replay rid s items
+
+-- nor of what is reported
+claimless_report : (keyring : Contents) (items : List Item) (rid : Rid) (commits : ℕ) (text : List ℕ) → IsGeneratedReport keyring items rid commits text
+    → IsGeneratedReport keyring (no_claims items) rid commits text
+claimless_report keyring items rid commits text r =
+    let same : replay rid (no_claims items) ≡ replay rid items = claimless_replay rid nothing_stands items in
+    record {
+      counts = r.counts;
+      made = r.made;
+      objects = record {
+        pairs = r.objects.pairs;
+        rising = r.objects.rising;
+        exact = λ of oid. subst (λ (t : Standing). Contains r.objects.pairs (of, oid) ↔ ((of ≡ rid) × IsSome (t.objects oid))) (sym same) (r.objects.exact of oid);
+        counted = r.objects.counted;
+      };
+      entries = r.entries ∙ sym (ap length (no_claims_durable items));
+      head = r.head;
+      found = subst (λ (t : Standing). IsHeadOf t.objects keyring (state_in rid t) r.head) (sym same) r.found;
+      written = r.written;
+    }
+
 module _ {D : Type 0} (reads : D → Option (List ℕ)) (images : D → List ℕ → Type 0) (files : Files) (store : Store D) (at_end out : Type 0)
-    (consumed gives : List ℕ → Type 0) where
+    (counted : Option ℕ) (consumed gives : List ℕ → Type 0) where
   imported_by : (s : Status) (result : ImportEnd) (h : HasRun reads images files consumed at_end store result) → (IsWholeRun s → h.unread ≡ [])
       → ((place : ℕ) → s ≡ status.InputBad place → IsBadInput at_end h.came place) → (s ≡ status.Ok → IsTaking at_end h.came)
       → (s ≡ status.SomeRefused → IsRefusing at_end h.came) → IsMadeOf (fault_of s) h.rid store.journal.end h.entries h.history
-      → (HasReport s → (text : List ℕ) × IsImportReport store.keyring h.came h.rid text × gives text)
-      → Imported files consumed at_end (images store.journal.disk) gives s
-  imported_by s result h whole bad ok refused made report =
+      → (HasReport s → (text : List ℕ) × IsReported counted files.store store.keyring (h.stored ++ h.history) h.came h.rid text × gives text)
+      → Imported counted files consumed at_end (images store.journal.disk) gives s
+  imported_by s result h whole bad ok refusing made report =
       let all = h.stored ++ h.history in
       record {
         keyring = store.keyring;
@@ -116,7 +152,7 @@ module _ {D : Type 0} (reads : D → Option (List ℕ)) (images : D → List ℕ
         job = h.job;
         bad = bad;
         ok = ok;
-        refused = refused;
+        refused = refusing;
         rid = h.rid;
         named = h.named;
         end = store.journal.end;
@@ -131,73 +167,103 @@ module _ {D : Type 0} (reads : D → Option (List ℕ)) (images : D → List ℕ
         report = report;
       }
 
+  -- what is told of the job is reported
+  report_told : (told : Option ℕ) (result : ImportEnd) (h : HasRun reads images files consumed at_end store result) (end : JobEnd) (text : List ℕ)
+      → TellsEnd (importing store.keyring) h.came h.rid end → TellsJob told store h.rid end text
+      → IsReported told files.store store.keyring (h.stored ++ h.history) h.came h.rid text
+  report_told None result h end text tells t = record { end = end; tells = tells; written = t }
+  report_told (Some commits) result h end text tells t = (
+    end,
+    tells,
+    if_told (λ bytes. IsMade reads images store (h.stored ++ h.history)) (λ bytes. IsGeneratedReport store.keyring (h.stored ++ h.history) h.rid commits text)
+        files.store (λ bytes m. subst (λ (l : List Item). IsGeneratedReport store.keyring l h.rid commits text) (sym m.entries)
+        (claimless_report store.keyring m.core.items h.rid commits text (t m.core.items m.stands))) h.store_has,
+  )
+
+  is_reported : (result : ImportEnd) (h : HasRun reads images files consumed at_end store result) (end : JobEnd)
+      → TellsEnd (importing store.keyring) h.came h.rid end → (text : List ℕ) × TellsJob counted store h.rid end text × gives text
+      → (text : List ℕ) × IsReported counted files.store store.keyring (h.stored ++ h.history) h.came h.rid text × gives text
+  is_reported result h end tells t = (t.0, report_told counted result h end t.0 tells t.1, t.2)
+
   -- the run reports how the job ended
   reported : (s : Status) (result : ImportEnd) (h : HasRun reads images files consumed at_end store result) (end : JobEnd) → h.unread ≡ []
       → TellsEnd (importing store.keyring) h.came h.rid end → h.history ≡ h.entries → ((IsRefusedEnd end → ⊥) → IsTaking at_end h.came)
-      → (IsRefusedEnd end → IsRefusing at_end h.came) → IsJobReportEnd end out s → (HasReport s → gives (job_text h.rid end))
-      → Imported files consumed at_end (images store.journal.disk) gives s
+      → (IsRefusedEnd end → IsRefusing at_end h.came) → IsJobReportEnd end out s → (HasReport s → (text : List ℕ) × TellsJob counted store h.rid end text × gives text)
+      → Imported counted files consumed at_end (images store.journal.disk) gives s
   reported s result h end none tells all taking refusing (inl x) gave =
-      subst (λ (t : Status). Imported files consumed at_end (images store.journal.disk) gives t) (sym x.0)
+      subst (λ (t : Status). Imported counted files consumed at_end (images store.journal.disk) gives t) (sym x.0)
       (imported_by status.Ok result h (λ w. none) (λ place e. absurd (cc e)) (λ e. taking x.1) (λ e. absurd (cc e)) all
-      (λ r. (job_text h.rid end, record { end = end; tells = tells; written = refl }, gave (subst HasReport (sym x.0) tt))))
+      (λ r. is_reported result h end tells (gave (subst HasReport (sym x.0) tt))))
   reported s result h end none tells all taking refusing (inr (inl x)) gave =
-      subst (λ (t : Status). Imported files consumed at_end (images store.journal.disk) gives t) (sym x.0)
+      subst (λ (t : Status). Imported counted files consumed at_end (images store.journal.disk) gives t) (sym x.0)
       (imported_by status.SomeRefused result h (λ w. none) (λ place e. absurd (cc e)) (λ e. absurd (cc e)) (λ e. refusing x.1) all
-      (λ r. (job_text h.rid end, record { end = end; tells = tells; written = refl }, gave (subst HasReport (sym x.0) tt))))
+      (λ r. is_reported result h end tells (gave (subst HasReport (sym x.0) tt))))
   reported s result h end none tells all taking refusing (inr (inr (inl x))) gave =
-      subst (λ (t : Status). Imported files consumed at_end (images store.journal.disk) gives t) (sym x.0)
+      subst (λ (t : Status). Imported counted files consumed at_end (images store.journal.disk) gives t) (sym x.0)
       (imported_by status.WriteFault result h (λ w. none) (λ place e. absurd (cc e)) (λ e. absurd (cc e)) (λ e. absurd (cc e)) all
-      (λ r. (job_text h.rid end, record { end = end; tells = tells; written = refl }, gave (subst HasReport (sym x.0) tt))))
+      (λ r. is_reported result h end tells (gave (subst HasReport (sym x.0) tt))))
   reported s result h end none tells all taking refusing (inr (inr (inr x))) gave =
-      subst (λ (t : Status). Imported files consumed at_end (images store.journal.disk) gives t) (sym x)
+      subst (λ (t : Status). Imported counted files consumed at_end (images store.journal.disk) gives t) (sym x)
       (imported_by status.NoMemory result h (λ w. none) (λ place e. absurd (cc e)) (λ e. absurd (cc e)) (λ e. absurd (cc e))
       (all_made h.rid store.journal.end h.entries h.history all) (λ r. absurd r))
 
   -- a call of the store was refused
   stopped : (s : Status) (why : KeepFault) (result : ImportEnd) (h : HasRun reads images files consumed at_end store result)
       → IsStopped h.rid 1 store.journal.end h.entries why h.history → fault_of s ≡ Some why → (IsWholeRun s → ⊥)
-      → Imported files consumed at_end (images store.journal.disk) gives s
+      → Imported counted files consumed at_end (images store.journal.disk) gives s
   stopped s why result h made e bars =
       imported_by s result h (λ w. absurd (bars w)) (λ place f. absurd (bars (subst IsWholeRun (sym f) tt))) (λ f. absurd (bars (subst IsWholeRun (sym f) tt)))
       (λ f. absurd (bars (subst IsWholeRun (sym f) tt))) (subst (λ (o : Option KeepFault). IsMadeOf o h.rid store.journal.end h.entries h.history) (sym e) made)
       (λ r. absurd (bars (whole_report s r)))
 
   pub imported : (s : Status) (result : ImportEnd) → (input disk : Type 0) → IsEndCaused input disk result
-      → HasRun reads images files consumed at_end store result → IsStatusOf out result s → (HasReport s → IfSome (report_of result) gives)
-      → Imported files consumed at_end (images store.journal.disk) gives s
+      → HasRun reads images files consumed at_end store result → IsStatusOf out result s → (HasReport s → (text : List ℕ) × TellsImport counted store result text × gives text)
+      → Imported counted files consumed at_end (images store.journal.disk) gives s
   imported s (import.Ended of (job.Done judged head)) input disk c h x gave =
       let tells = h.made.1 in
       reported s (import.Ended of (job.Done judged head)) h (job.Done judged head) (h.whole tt) tells h.made.3
       (λ free. subst (IsTaking at_end) (sym tells.1) (all_taken judged.outcomes free, h.made.2))
       (λ bars. subst (IsRefusing at_end) (sym tells.1) (bars, h.made.2)) x
-      (λ r. subst (λ (q : Rid). gives (job_text q (job.Done judged head))) h.made.0 (gave r))
+      (λ r. subst (λ (q : Rid). (text : List ℕ) × TellsJob counted store q (job.Done judged head) text × gives text) h.made.0 (gave r))
   imported s (import.Ended of (job.Refused why)) input disk c h x gave =
       let tells = h.made.1 in
       reported s (import.Ended of (job.Refused why)) h (job.Refused why) (h.whole tt) tells h.made.3 (λ free. absurd (free tt))
       (λ bars. subst (IsRefusing at_end) (sym tells.1) h.made.2) x
-      (λ r. subst (λ (q : Rid). gives (job_text q (job.Refused why))) h.made.0 (gave r))
+      (λ r. subst (λ (q : Rid). (text : List ℕ) × TellsJob counted store q (job.Refused why) text × gives text) h.made.0 (gave r))
   imported s (import.Ended of job.TooLong) input disk c h x gave =
       reported s (import.Ended of job.TooLong) h job.TooLong (h.whole tt) h.made.1 h.made.2 (λ free. absurd (free tt))
       (λ bars. subst (IsRefusing at_end) (sym h.made.1) tt) x
-      (λ r. subst (λ (q : Rid). gives (job_text q job.TooLong)) h.made.0 (gave r))
+      (λ r. subst (λ (q : Rid). (text : List ℕ) × TellsJob counted store q job.TooLong text × gives text) h.made.0 (gave r))
   imported s (import.Ended of job.DiskFault) input disk c h x gave =
-      subst (λ (t : Status). Imported files consumed at_end (images store.journal.disk) gives t) (sym x)
+      subst (λ (t : Status). Imported counted files consumed at_end (images store.journal.disk) gives t) (sym x)
       (stopped status.DiskFault fault.DiskFault (import.Ended of job.DiskFault) h h.made refl (λ w. w))
   imported s (import.Ended of job.Full) input disk c h x gave =
-      subst (λ (t : Status). Imported files consumed at_end (images store.journal.disk) gives t) (sym x)
+      subst (λ (t : Status). Imported counted files consumed at_end (images store.journal.disk) gives t) (sym x)
       (stopped status.Full fault.Full (import.Ended of job.Full) h h.made refl (λ w. w))
   imported s (import.Ended of (job.Changed change)) input disk c h x gave = absurd c
   imported s (import.Ended of job.NoMemory) input disk c h x gave =
-      subst (λ (t : Status). Imported files consumed at_end (images store.journal.disk) gives t) (sym x)
+      subst (λ (t : Status). Imported counted files consumed at_end (images store.journal.disk) gives t) (sym x)
       (stopped status.NoMemory fault.NoMemory (import.Ended of job.NoMemory) h h.made refl (λ w. w))
   imported s import.ReadFault input disk c h x gave =
-      subst (λ (t : Status). Imported files consumed at_end (images store.journal.disk) gives t) (sym x)
+      subst (λ (t : Status). Imported counted files consumed at_end (images store.journal.disk) gives t) (sym x)
       (imported_by (status.ReadFault source.Input) import.ReadFault h (λ w. absurd w) (λ place e. absurd (cc e)) (λ e. absurd (cc e)) (λ e. absurd (cc e)) h.made
       (λ r. absurd r))
   imported s (import.InputBad place) input disk c h x gave =
-      subst (λ (t : Status). Imported files consumed at_end (images store.journal.disk) gives t) (sym x)
+      subst (λ (t : Status). Imported counted files consumed at_end (images store.journal.disk) gives t) (sym x)
       (imported_by (status.InputBad place) (import.InputBad place) h (λ w. h.whole tt)
       (λ other e. subst (IsBadInput at_end h.came) (one_place place other e) h.made.0) (λ e. absurd (cc e)) (λ e. absurd (cc e)) h.made.1 (λ r. absurd r))
   imported s import.NoMemory input disk c h x gave =
-      subst (λ (t : Status). Imported files consumed at_end (images store.journal.disk) gives t) (sym x)
+      subst (λ (t : Status). Imported counted files consumed at_end (images store.journal.disk) gives t) (sym x)
       (stopped status.NoMemory fault.NoMemory import.NoMemory h h.made refl (λ w. w))
+
+-- the import of a repository that is made by rule
+pub imports_generated : (commits : ℕ) (store : Option (List ℕ)) (images gives : List ℕ → Type 0) (s : Status) (keyring bundle : List ℕ)
+    (left : Option (List ℕ)) → keyring ≡ generated_keyring commits → IsBundleOf (generated commits) bundle
+    → Imported (Some commits) (record { keyring = Some keyring; store = store }) (Consumes (Some bundle) left) (IsAtEnd left) images gives s
+    → ImportsGenerated commits store images gives s
+imports_generated commits store images gives s keyring bundle left same is i = record {
+  bundle = bundle;
+  is = is;
+  left = left;
+  imported = subst (λ (k : List ℕ). Imported (Some commits) (record { keyring = Some k; store = store }) (Consumes (Some bundle) left) (IsAtEnd left) images gives s) same i;
+}

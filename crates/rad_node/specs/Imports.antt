@@ -14,6 +14,8 @@ use Rattle.repo_slice.specs.declared.outcomes.Outcome.TheVariants as outcome
 use Rattle.legal_history.specs.Durable.{durable_part}
 use Rattle.object_store.specs.Bodies.{bodies_of}
 use Rattle.object_store.specs.Held.{held_in}
+use Rattle.object_store.specs.Stores.{StandsFor}
+use Rattle.object_store.specs.declared.store.Store.{Store}
 use Rattle.store_keep.specs.Made.{IsImageOf, ReopensLegal}
 use Rattle.fetch_stages.specs.Imports.{Bad, Came, Inside, IsBundleJob, IsHeadOn, IsNamedBy, Long, Unjudged, Verdict}
 use Rattle.fetch_stages.specs.declared.job_end.ImportEnd.{ImportEnd}
@@ -21,6 +23,7 @@ use Rattle.fetch_stages.specs.declared.job_end.ImportEnd.TheVariants as import
 use Rattle.fetch_stages.specs.declared.job_end.JobEnd.{JobEnd}
 use Rattle.fetch_stages.specs.declared.job_end.JobEnd.TheVariants as job
 use Rattle.report_texts.specs.Texts.{job_text}
+use Rattle.store_reports.specs.Reports.{IsGeneratedReport}
 use Rattle.rad_node.specs.Runs.{HasReport}
 use Rattle.rad_node.specs.Statuses.{AreGood, Files}
 use Rattle.rad_node.specs.declared.status.Status.{Status}
@@ -111,6 +114,28 @@ pub record IsImportReport (keyring : Contents) (came : Came) (rid : Rid) (text :
   pub tells : TellsEnd (importing keyring) came rid end
   pub written : text ≡ job_text rid end
 
+-- the report of an import whose job ended so: the block of the job, or, where its commits were counted, what
+-- stands of the repository
+abbrev pub TellsJob : {D : Type 0} → Option ℕ → Store D → Rid → JobEnd → List ℕ → Type 0
+TellsJob None store rid end text = text ≡ job_text rid end
+TellsJob (Some commits) store rid end text =
+    (items : List Item) → StandsFor store items → IsGeneratedReport store.keyring items rid commits text
+
+-- the same of an import, where the end has a report
+abbrev pub TellsImport : {D : Type 0} → Option ℕ → Store D → ImportEnd → List ℕ → Type 0
+TellsImport counted store (import.Ended rid end) text = TellsJob counted store rid end text
+TellsImport counted store import.ReadFault text = ⊥
+TellsImport counted store (import.InputBad place) text = ⊥
+TellsImport counted store import.NoMemory text = ⊥
+
+-- what is reported behind these entries, where the store was told: the block of the job; or what they make of
+-- the repository, and how many commits it has
+abbrev pub IsReported : Option ℕ → Option (List ℕ) → Contents → List Item → Came → Rid → List ℕ → Type 0
+IsReported None store keyring items came rid text = IsImportReport keyring came rid text
+IsReported (Some commits) store keyring items came rid text =
+    (end : JobEnd) × TellsEnd (importing keyring) came rid end
+    × IfSome store (λ _. IsGeneratedReport keyring items rid commits text)
+
 -- the end of a run that reports how its job ended
 abbrev pub IsJobReportEnd : JobEnd → Type 0 → Status → Type 0
 IsJobReportEnd end out result =
@@ -129,13 +154,6 @@ IsStatusOf out (import.Ended rid job.NoMemory) result = result ≡ status.NoMemo
 IsStatusOf out import.ReadFault result = result ≡ status.ReadFault source.Input
 IsStatusOf out (import.InputBad place) result = result ≡ status.InputBad place
 IsStatusOf out import.NoMemory result = result ≡ status.NoMemory
-
--- what is reported of an import that ended so
-abbrev pub report_of : ImportEnd → Option (List ℕ)
-report_of (import.Ended rid end) = Some (job_text rid end)
-report_of import.ReadFault = None
-report_of (import.InputBad place) = None
-report_of import.NoMemory = None
 
 -- the end of a run that opened its store and took the bundle
 abbrev pub IsImportEnd : Status → Type 0
@@ -182,7 +200,7 @@ IsWholeRun other = ⊥
 -- image that a crash now may leave is a journal of the durable part of both, or of it and the one entry in
 -- doubt that the last missed one names, and is opened again as a legal history. Where a report was given it is
 -- that of the job's end.
-pub record Imported (files : Files) (consumed : List ℕ → Type 0) (at_end : Type 0) (images gives : List ℕ → Type 0) (result : Status) : Type 0 where
+pub record Imported (counted : Option ℕ) (files : Files) (consumed : List ℕ → Type 0) (at_end : Type 0) (images gives : List ℕ → Type 0) (result : Status) : Type 0 where
   pub keyring : Contents
   pub stored : List Item
   pub good : AreGood files keyring stored
@@ -204,4 +222,4 @@ pub record Imported (files : Files) (consumed : List ℕ → Type 0) (at_end : T
   pub end_is : IfSome files.store (λ _. end ≡ gate_behind (bodies_of (durable_part (stored ++ history))))
   pub images_are : IfSome files.store (λ _. (image : List ℕ) → images image → IsImageOf (stored ++ history) image)
   pub legal : IfSome files.store (λ _. (image : List ℕ) → images image → ReopensLegal keyring image)
-  pub report : HasReport result → (text : List ℕ) × IsImportReport keyring came rid text × gives text
+  pub report : HasReport result → (text : List ℕ) × IsReported counted files.store keyring (stored ++ history) came rid text × gives text

@@ -1,6 +1,7 @@
 pub mod Commands
 pub mod Done
 pub mod Ends
+pub mod Generating
 pub mod Imports
 pub mod Jobs
 pub mod Opening

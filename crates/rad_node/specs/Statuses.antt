@@ -1,5 +1,5 @@
 -- What each status says of the files, and what was asked before it.
-use Rattle.std.specs.Prelude.{◌≡◌, ◌⊎◌, ◌≤◌, ◌<◌, ℕ, List, length, Option, IfSome}
+use Rattle.std.specs.Prelude.{◌≡◌, ◌⊎◌, ◌≤◌, ◌<◌, ℕ, List, length, Option, Some, IfSome}
 use Rattle.keyring.specs.Contents.{Contents}
 use Rattle.keyring.specs.Keys.{BreaksKeyringAt, Keys}
 use Rattle.ref_journal.specs.Images.{IsDamagedAt, IsJournal, IsUnmade}
@@ -7,8 +7,10 @@ use Rattle.repo_entries.specs.Items.{Item}
 use Rattle.legal_history.specs.Histories.{Legal}
 use Rattle.object_store.specs.Opened.{IsStoreImage}
 use Rattle.object_store.specs.Opens.{IsIllegalAt, IsNoEntryAt}
+use Rattle.rad_vectors.specs.Generated.{generated}
+use Rattle.rad_vectors.specs.Repositories.{keyring_text}
 use Rattle.rad_node.specs.declared.command.Command.{Command}
-use Rattle.rad_node.specs.declared.command.Command.TheVariants.{Init, Import, Show, Heads, Audit}
+use Rattle.rad_node.specs.declared.command.Command.TheVariants.{Init, Import, Show, Heads, Audit, Gen}
 use Rattle.rad_node.specs.declared.status.Status.{Status}
 use Rattle.rad_node.specs.declared.status.Status.TheVariants.{Ok, Usage, ReadFault, WriteFault, DiskFault, Unmade, Damaged, KeyringBad, InputBad, SomeRefused, Full, NotLegal, AlreadyMade, Changed, NoMemory}
 use Rattle.rad_node.specs.declared.status.WhichSource.{WhichSource}
@@ -20,6 +22,19 @@ use Rattle.std.specs.Prelude.{String}
 pub record Files : Type 0 where
   pub keyring : Option (List ℕ)
   pub store : Option (List ℕ)
+
+-- the keyring of the repository that is made by rule with so many commits
+abbrev pub generated_keyring : ℕ → List ℕ
+generated_keyring commits = keyring_text (generated commits).names (generated commits).signers
+
+-- the files by which a command works: `gen` makes its keyring
+abbrev pub files_of : Command → Files → Files
+files_of Init files = files
+files_of Import files = files
+files_of Show files = files
+files_of Heads files = files
+files_of Audit files = files
+files_of (Gen commits) files = record { keyring = Some (generated_keyring commits); store = files.store }
 
 -- A fault is answered only where its cause is there: a fault of the keyring's source, of the bundle's,
 -- of the disk, of the sink. No bytes that were read back have another name.
@@ -77,13 +92,32 @@ pub record AreGood (files : Files) (keyring : Contents) (stored : List Item) : T
   pub store : IfSome files.store (λ bytes. IsStoreImage bytes stored)
   pub legal : Legal keyring stored
 
--- the command reads a keyring and opens a store
-abbrev pub ReadsStore : Command → Type 0
-ReadsStore Init = ⊥
-ReadsStore Import = Unit {0}
-ReadsStore Show = Unit {0}
-ReadsStore Heads = Unit {0}
-ReadsStore Audit = Unit {0}
+-- the command opens a store under a keyring
+abbrev pub OpensStore : Command → Type 0
+OpensStore Init = ⊥
+OpensStore Import = Unit {0}
+OpensStore Show = Unit {0}
+OpensStore Heads = Unit {0}
+OpensStore Audit = Unit {0}
+OpensStore (Gen commits) = Unit {0}
+
+-- the command reads a keyring file
+abbrev pub ReadsKeyring : Command → Type 0
+ReadsKeyring Init = ⊥
+ReadsKeyring Import = Unit {0}
+ReadsKeyring Show = Unit {0}
+ReadsKeyring Heads = Unit {0}
+ReadsKeyring Audit = Unit {0}
+ReadsKeyring (Gen commits) = ⊥
+
+-- the command reads a bundle
+abbrev pub ReadsBundle : Command → Type 0
+ReadsBundle Init = ⊥
+ReadsBundle Import = Unit {0}
+ReadsBundle Show = ⊥
+ReadsBundle Heads = ⊥
+ReadsBundle Audit = ⊥
+ReadsBundle (Gen commits) = ⊥
 
 -- the command takes a bundle
 abbrev pub TakesBundle : Command → Type 0
@@ -92,12 +126,13 @@ TakesBundle Import = Unit {0}
 TakesBundle Show = ⊥
 TakesBundle Heads = ⊥
 TakesBundle Audit = ⊥
+TakesBundle (Gen commits) = Unit {0}
 
 -- the command reads this source
 abbrev pub ReadsSource : Command → WhichSource → Type 0
-ReadsSource command source.Keys = ReadsStore command
+ReadsSource command source.Keys = ReadsKeyring command
 ReadsSource command source.Rules = ⊥
-ReadsSource command source.Input = TakesBundle command
+ReadsSource command source.Input = ReadsBundle command
 
 -- a command may end so, and what is said of the files is so
 abbrev pub IsSaid : Command → Files → Status → Type 0
@@ -106,13 +141,13 @@ IsSaid command files Usage = ⊥
 IsSaid command files (ReadFault which) = ReadsSource command which
 IsSaid command files WriteFault = Unit {0}
 IsSaid command files DiskFault = Unit {0}
-IsSaid command files Unmade = ReadsStore command × IfSome files.store IsUnmade
-IsSaid command files (Damaged place) = ReadsStore command × IfSome files.store (IsDamagedStore place)
-IsSaid command files (KeyringBad line) = ReadsStore command × IfSome files.keyring (IsBadKeyring line)
+IsSaid command files Unmade = OpensStore command × IfSome files.store IsUnmade
+IsSaid command files (Damaged place) = OpensStore command × IfSome files.store (IsDamagedStore place)
+IsSaid command files (KeyringBad line) = OpensStore command × IfSome files.keyring (IsBadKeyring line)
 IsSaid command files (InputBad place) = TakesBundle command
 IsSaid command files SomeRefused = TakesBundle command
 IsSaid command files Full = TakesBundle command
-IsSaid command files (NotLegal n) = ReadsStore command × IfSome files.store (IsIllegalStore files n)
+IsSaid command files (NotLegal n) = OpensStore command × IfSome files.store (IsIllegalStore files n)
 IsSaid command files AlreadyMade = (command ≡ Init) × IfSome files.store (λ bytes. IsUnmade bytes → ⊥)
 IsSaid command files (Changed change) = ⊥
 IsSaid command files NoMemory = Unit {0}
@@ -130,7 +165,7 @@ IsOpeningEnd (Damaged place) = Unit {0}
 IsOpeningEnd (NotLegal n) = Unit {0}
 IsOpeningEnd other = IsKeyringEnd other
 
--- What was not asked yet is the very same: `init` reads no file, a run that ended at its keyring left the
+-- What was not asked yet is the very same: `init` and `gen` read no file, a run that ended at its keyring left the
 -- store, and one that ended before it left the bundle, which only `import` reads.
 abbrev pub IsOrdered : Command → Status → Type 0 → Type 0 → Type 0 → Type 0
 IsOrdered Init status same_disk same_keys same_input = same_keys × same_input
@@ -139,3 +174,4 @@ IsOrdered Import status same_disk same_keys same_input =
 IsOrdered Show status same_disk same_keys same_input = (IsKeyringEnd status → same_disk) × same_input
 IsOrdered Heads status same_disk same_keys same_input = (IsKeyringEnd status → same_disk) × same_input
 IsOrdered Audit status same_disk same_keys same_input = (IsKeyringEnd status → same_disk) × same_input
+IsOrdered (Gen commits) status same_disk same_keys same_input = same_keys × same_input

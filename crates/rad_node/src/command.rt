@@ -1,6 +1,9 @@
 // The command that words give.
-ghost use Rattle.std.specs.Prelude.{◌↔◌, IfNone, IfSome, IsTrue};
-ghost use Rattle.rad_node.specs.Commands.{ArePaths, IsNoCommand, Says};
+ghost use Rattle.std.specs.Prelude.{◌↔◌, ℕ, IfNone, IfSome, IsTrue};
+ghost use Rattle.rad_node.specs.Commands.{ArePaths, IsCommitCount, IsNoCommand, IsPathAndCount};
+ghost use Rattle.rad_node.specs.Commands.{Says};
+
+use itoa::Buffer;
 
 /// A command that works on a store.
 #[derive(Clone, Copy, Debug, PartialEq, Eq)]
@@ -15,11 +18,14 @@ pub enum Command {
     Heads,
     /// Prints what the store counts.
     Audit,
+    /// Imports the repository that is made by rule with so many commits.
+    Gen(u32),
 }
 
 /// The command that the words give, if they give one: `init <store>`,
 /// `import <store> <keys> <bundle>`, `show <store> <keys>`, `heads <store> <keys>`,
-/// `audit <store> <keys>`. No path is empty.
+/// `audit <store> <keys>`, `gen <store> <commits>`. No path is empty. The number of commits is from 1
+/// to 100,000, in decimal without a leading 0.
 pub fn command_of(words: &[String]) -> Option<Command>
     ensures some { IfSome result (Says words.now) }
     ensures none { IfNone result (IsNoCommand words.now) }
@@ -31,6 +37,7 @@ pub fn command_of(words: &[String]) -> Option<Command>
         "show" if are_paths(2, paths) => Some(Command::Show),
         "heads" if are_paths(2, paths) => Some(Command::Heads),
         "audit" if are_paths(2, paths) => Some(Command::Audit),
+        "gen" => count_behind_path(paths).map(Command::Gen),
         _ => None,
     }
 }
@@ -40,4 +47,39 @@ fn are_paths(count: usize, paths: &[String]) -> bool
     ensures { IsTrue result ↔ ArePaths count paths.now }
 {
     paths.len() == count && paths.iter().all(|path| !path.is_empty())
+}
+
+// The number of commits behind a path, if the words are these two.
+fn count_behind_path(words: &[String]) -> Option<u32>
+    ensures some { IfSome result (IsPathAndCount words.now) }
+    ensures none { IfNone result ((count : ℕ) → IsPathAndCount words.now count → ⊥) }
+{
+    match words {
+        [path, word] if !path.is_empty() => commit_count(word.as_str()),
+        _ => None,
+    }
+}
+
+// The number of commits that a word says.
+fn commit_count(word: &str) -> Option<u32>
+    ensures some { IfSome result (IsCommitCount word.now) }
+    ensures none { IfNone result ((count : ℕ) → IsCommitCount word.now count → ⊥) }
+{
+    let count = match word.parse::<u32>() {
+        Ok(count) => count,
+        Err(_) => return None,
+    };
+    if is_commit_count(word, count) {
+        Some(count)
+    } else {
+        None
+    }
+}
+
+// Whether a word is this number of commits.
+fn is_commit_count(word: &str, count: u32) -> bool
+    ensures { IsTrue result ↔ IsCommitCount word.now count }
+{
+    let mut buffer = Buffer::new();
+    1 <= count && count <= 100_000 && buffer.format(count) == word
 }

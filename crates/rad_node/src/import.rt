@@ -1,19 +1,18 @@
 // The import of a bundle, and its report.
-ghost use Rattle.std.specs.Prelude.{◌≡◌, ◌≤◌, ◌⊎◌, IfSome};
+ghost use Rattle.std.specs.Prelude.{◌≡◌, ◌≤◌, ◌⊎◌, ℕ, List, IfOk};
 ghost use Rattle.std.specs.Io.KnownBytes.{Consumes, IsAtEnd, Keeps};
 ghost use Rattle.rad_base.specs.Faults.{Rose};
 ghost use Rattle.object_store.specs.Held.{IsUnclaimed};
 ghost use Rattle.object_store.specs.Stores.{StandsForSome};
 ghost use Rattle.rad_node.specs.Done.{MayBeUnopened};
 ghost use Rattle.rad_node.specs.Imports.{Imported, IsImportEnd, IsJobReportEnd, IsStatusOf};
-ghost use Rattle.rad_node.specs.Imports.{report_of};
+ghost use Rattle.rad_node.specs.Imports.{TellsImport, TellsJob};
 ghost use Rattle.rad_node.specs.Opening.{HasOpened};
 ghost use Rattle.rad_node.specs.Runs.{HasReport, IsKept};
 ghost use Rattle.rad_node.specs.Statuses.{Files, IsCaused, IsKeyringEnd, IsOpeningEnd, IsSaid};
 ghost use Rattle.rad_node.specs.Transfers.{GivesBy};
 ghost use Rattle.rad_node.specs.declared.command.Command.TheVariants as command;
 ghost use Rattle.fetch_stages.specs.declared.job_end.ImportEnd.TheVariants as import;
-ghost use Rattle.report_texts.specs.Texts.{job_text};
 
 use crate::job::{is_refused, run_job};
 use crate::opening::open_store;
@@ -21,37 +20,78 @@ use crate::report::give_report;
 use crate::status::{Status, WhichSource};
 use fetch_stages::{ImportEnd, JobEnd};
 use object_store::Store;
-use rad_base::Rid;
+use rad_base::{Bytes, NoMemory, Rid};
 use rad_outside::{Disk, Sink, Source};
 use report_texts::push_job;
 use std::alloc::Global;
+use store_reports::generated_report;
+
+// The report of a job that ended so: its block, or, where its commits were counted, what stands of the
+// repository.
+fn report_of<D: Disk>(
+    alloc: Global,
+    counted: Option<u32>,
+    store: &mut Store<D>,
+    rid: &Rid,
+    end: &JobEnd,
+) -> Result<Bytes, NoMemory>
+    requires { StandsForSome store.old }
+    ensures same { store.new ≡ store.old }
+    ensures report { IfOk result (TellsJob counted store.old rid.now end.now) }
+{
+    if let Some(commits) = counted {
+        return generated_report(alloc, store, rid, commits);
+    }
+    let mut text = Vec::new(alloc);
+    push_job(&mut text, rid, end)?;
+    Ok(Bytes::of(text))
+}
 
 // Reports how the job of a repository ended.
-fn report_job<W: Sink>(alloc: Global, rid: &Rid, end: &JobEnd, out: &mut W) -> Status
+fn report_job<D: Disk, W: Sink>(
+    alloc: Global,
+    counted: Option<u32>,
+    store: &mut Store<D>,
+    rid: &Rid,
+    end: &JobEnd,
+    out: &mut W,
+) -> Status
+    requires { StandsForSome store.old }
+    ensures same { store.new ≡ store.old }
     ensures end { IsJobReportEnd end.now (Rose (W.faults out.old) (W.faults out.new)) result }
     ensures gives { HasReport result
-        → GivesBy result (W.given out.old) (W.given out.new) (job_text rid.now end.now) }
+        → (text : List ℕ) × TellsJob counted store.old rid.now end.now text
+        × GivesBy result (W.given out.old) (W.given out.new) text }
     ensures silent { (HasReport result → ⊥) → Keeps (W.given out.old) (W.given out.new) }
 {
-    let mut text = Vec::new(alloc);
-    match push_job(&mut text, rid, end) {
-        Ok(()) => give_report(out, &text, is_refused(end)),
-        Err(_) => Status::NoMemory,
+    match report_of(alloc, counted, store, rid, end) {
+        Ok(text) => give_report(out, text.as_slice(), is_refused(end)),
+        Err(NoMemory) => Status::NoMemory,
     }
 }
 
 // Reports how the job of a repository ended, unless a call of the store was refused.
-fn report_end<W: Sink>(alloc: Global, rid: &Rid, end: &JobEnd, out: &mut W) -> Status
+fn report_end<D: Disk, W: Sink>(
+    alloc: Global,
+    counted: Option<u32>,
+    store: &mut Store<D>,
+    rid: &Rid,
+    end: &JobEnd,
+    out: &mut W,
+) -> Status
+    requires { StandsForSome store.old }
+    ensures same { store.new ≡ store.old }
     ensures status { IsStatusOf (Rose (W.faults out.old) (W.faults out.new))
         (import.Ended rid.now end.now) result }
     ensures gives { HasReport result
-        → GivesBy result (W.given out.old) (W.given out.new) (job_text rid.now end.now) }
+        → (text : List ℕ) × TellsJob counted store.old rid.now end.now text
+        × GivesBy result (W.given out.old) (W.given out.new) text }
     ensures silent { (HasReport result → ⊥) → Keeps (W.given out.old) (W.given out.new) }
 {
     match end {
-        JobEnd::Done(_, _) => report_job(alloc, rid, end, out),
-        JobEnd::Refused(_) => report_job(alloc, rid, end, out),
-        JobEnd::TooLong => report_job(alloc, rid, end, out),
+        JobEnd::Done(_, _) => report_job(alloc, counted, store, rid, end, out),
+        JobEnd::Refused(_) => report_job(alloc, counted, store, rid, end, out),
+        JobEnd::TooLong => report_job(alloc, counted, store, rid, end, out),
         JobEnd::DiskFault => Status::DiskFault,
         JobEnd::Full => Status::Full,
         JobEnd::Changed(change) => Status::Changed(*change),
@@ -60,14 +100,23 @@ fn report_end<W: Sink>(alloc: Global, rid: &Rid, end: &JobEnd, out: &mut W) -> S
 }
 
 // Reports how an import ended, unless that is how the run ends.
-fn report_import<W: Sink>(alloc: Global, end: &ImportEnd, out: &mut W) -> Status
+fn report_import<D: Disk, W: Sink>(
+    alloc: Global,
+    counted: Option<u32>,
+    store: &mut Store<D>,
+    end: &ImportEnd,
+    out: &mut W,
+) -> Status
+    requires { StandsForSome store.old }
+    ensures same { store.new ≡ store.old }
     ensures status { IsStatusOf (Rose (W.faults out.old) (W.faults out.new)) end.now result }
     ensures gives { HasReport result
-        → IfSome (report_of end.now) (GivesBy result (W.given out.old) (W.given out.new)) }
+        → (text : List ℕ) × TellsImport counted store.old end.now text
+        × GivesBy result (W.given out.old) (W.given out.new) text }
     ensures silent { (HasReport result → ⊥) → Keeps (W.given out.old) (W.given out.new) }
 {
     match end {
-        ImportEnd::Ended(rid, end) => report_end(alloc, rid, end, out),
+        ImportEnd::Ended(rid, end) => report_end(alloc, counted, store, rid, end, out),
         ImportEnd::ReadFault => Status::ReadFault(WhichSource::Input),
         ImportEnd::InputBad(place) => Status::InputBad(*place),
         ImportEnd::NoMemory => Status::NoMemory,
@@ -77,6 +126,7 @@ fn report_import<W: Sink>(alloc: Global, end: &ImportEnd, out: &mut W) -> Status
 // Imports the bundle that an input has into a store that nobody claims, and reports it.
 fn import_bundle<D: Disk, I: Source, W: Sink>(
     alloc: Global,
+    counted: Option<u32>,
     store: Store<D>,
     input: &mut I,
     out: &mut W,
@@ -90,21 +140,23 @@ fn import_bundle<D: Disk, I: Source, W: Sink>(
         (Rose (D.faults store.journal.disk) (D.faults result.1))
         (Rose (W.faults out.old) (W.faults out.new)) }
     ensures imported { (files : Files) → HasOpened D.reads_as D.images files store
-        → Imported files (Consumes (I.left input.old) (I.left input.new))
+        → Imported counted files (Consumes (I.left input.old) (I.left input.new))
         (IsAtEnd (I.left input.new)) (D.images result.1)
         (GivesBy result.0 (W.given out.old) (W.given out.new)) result.0 }
     ensures silent { (HasReport result.0 → ⊥) → Keeps (W.given out.old) (W.given out.new) }
 {
-    let (end, store) = run_job(alloc, store, input);
-    let status = report_import(alloc, &end, out);
+    let (end, mut store) = run_job(alloc, store, input);
+    let status = report_import(alloc, counted, &mut store, &end, out);
     let (disk, _history) = store.close();
     (status, disk)
 }
 
 /// Opens the store on a disk under the keyring, imports the bundle that an input has, and reports
-/// how its job ended. The disk comes back.
+/// how its job ended, or, where its commits were counted, what stands of the repository. The disk
+/// comes back.
 pub(crate) fn import<D: Disk, S: Source, I: Source, W: Sink>(
     alloc: Global,
+    counted: Option<u32>,
     disk: D,
     keys: &mut S,
     input: &mut I,
@@ -120,7 +172,7 @@ pub(crate) fn import<D: Disk, S: Source, I: Source, W: Sink>(
         (record { keyring = S.left keys.old; store = D.reads_as disk }) result.0 }
     ensures kept { IsOpeningEnd result.0 → IsKept (D.reads_as disk) (D.reads_as result.1)
         (D.images disk) (D.images result.1) }
-    ensures done { Imported (record { keyring = S.left keys.old; store = D.reads_as disk })
+    ensures done { Imported counted (record { keyring = S.left keys.old; store = D.reads_as disk })
         (Consumes (I.left input.old) (I.left input.new)) (IsAtEnd (I.left input.new))
         (D.images result.1) (GivesBy result.0 (W.given out.old) (W.given out.new)) result.0
         ⊎ (MayBeUnopened result.0 × IsKept (D.reads_as disk) (D.reads_as result.1)
@@ -128,7 +180,7 @@ pub(crate) fn import<D: Disk, S: Source, I: Source, W: Sink>(
     ensures silent { (HasReport result.0 → ⊥) → Keeps (W.given out.old) (W.given out.new) }
 {
     match open_store(alloc, disk, keys) {
-        Ok(store) => import_bundle(alloc, store, input, out),
+        Ok(store) => import_bundle(alloc, counted, store, input, out),
         Err(refusal) => (refusal.status, refusal.disk),
     }
 }

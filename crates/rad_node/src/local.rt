@@ -2,14 +2,15 @@
 ghost use Rattle.std.specs.Prelude.{◌≡◌, ◌≤◌};
 ghost use Rattle.std.specs.Io.KnownBytes.{Consumes, IsAtEnd, Keeps};
 ghost use Rattle.rad_base.specs.Faults.{Rose};
-ghost use Rattle.rad_node.specs.Commands.{Says};
+ghost use Rattle.rad_node.specs.Commands.{IsInRange, Says};
 ghost use Rattle.rad_node.specs.Done.{IsDone};
 ghost use Rattle.rad_node.specs.Runs.{HasReport, IsKept, OnlyReadsDisk};
-ghost use Rattle.rad_node.specs.Statuses.{IsCaused, IsOrdered, IsSaid, IsUsage};
+ghost use Rattle.rad_node.specs.Statuses.{IsCaused, IsOrdered, IsSaid, IsUsage, files_of};
 ghost use Rattle.rad_node.specs.Transfers.{GivesBy};
 ghost use Rattle.rad_node.specs.declared.command.Command.{Command as IsCommand};
 
 use crate::command::{Command, command_of};
+use crate::generating::generate;
 use crate::import::import;
 use crate::making::make_store;
 use crate::printing::{Report, print_store};
@@ -26,14 +27,15 @@ fn run_command<D: Disk, S: Source, I: Source, W: Sink>(
     input: &mut I,
     out: &mut W,
 ) -> (Status, D)
+    requires { IsInRange command }
     ensures stays { D.loan result.1 ≡ D.loan disk }
     ensures cause { IsCaused result.0 (Rose (S.faults keys.old) (S.faults keys.new))
         (Rose (I.faults input.old) (I.faults input.new))
         (Rose (D.faults disk) (D.faults result.1)) (Rose (W.faults out.old) (W.faults out.new)) }
     ensures order { IsOrdered command result.0 (result.1 ≡ disk)
         (keys.new ≡ keys.old) (input.new ≡ input.old) }
-    ensures said { IsSaid command
-        (record { keyring = S.left keys.old; store = D.reads_as disk }) result.0 }
+    ensures said { IsSaid command (files_of command
+        (record { keyring = S.left keys.old; store = D.reads_as disk })) result.0 }
     ensures kept { OnlyReadsDisk command result.0
         → IsKept (D.reads_as disk) (D.reads_as result.1) (D.images disk) (D.images result.1) }
     ensures done { IsDone command (record { keyring = S.left keys.old; store = D.reads_as disk })
@@ -45,15 +47,17 @@ fn run_command<D: Disk, S: Source, I: Source, W: Sink>(
 {
     match command {
         Command::Init => make_store(disk, out),
-        Command::Import => import(alloc, disk, keys, input, out),
+        Command::Import => import(alloc, None, disk, keys, input, out),
         Command::Show => print_store(alloc, Report::Show, disk, keys, out),
         Command::Heads => print_store(alloc, Report::Heads, disk, keys, out),
         Command::Audit => print_store(alloc, Report::Audit, disk, keys, out),
+        Command::Gen(commits) => generate(alloc, commits, disk, out),
     }
 }
 
 /// Runs the command that the words give: it reads the words, the keyring, the store and the bundle,
-/// in this order, and gives the report last. The first refusal ends it.
+/// in this order, and gives the report last. The first refusal ends it. `gen` makes its keyring and its
+/// bundle in place of reading them.
 ///
 /// - `Ok`: all was done, and the report was given.
 /// - `Usage`: the words are no command. Nothing was asked.
@@ -92,7 +96,8 @@ pub fn run_local<D: Disk, S: Source, I: Source, W: Sink>(
         → IsOrdered command result (disk.new ≡ disk.old)
         (keys.new ≡ keys.old) (input.new ≡ input.old) }
     ensures said { (command : IsCommand) → Says words.now command → IsSaid command
-        (record { keyring = S.left keys.old; store = D.reads_as disk.old }) result }
+        (files_of command (record { keyring = S.left keys.old; store = D.reads_as disk.old }))
+        result }
     ensures kept { (command : IsCommand) → Says words.now command → OnlyReadsDisk command result
         → IsKept (D.reads_as disk.old) (D.reads_as disk.new)
         (D.images disk.old) (D.images disk.new) }

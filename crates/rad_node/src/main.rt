@@ -4,6 +4,7 @@
 ghost use Rattle.std.specs.Prelude.{◌≡◌};
 
 mod command;
+mod generating;
 mod import;
 mod job;
 mod local;
@@ -15,6 +16,7 @@ mod report;
 mod runs;
 mod status;
 mod transfer;
+mod whole_bytes;
 
 pub use command::{Command, command_of};
 pub use local::run_local;
@@ -36,10 +38,12 @@ person, as they were accepted.
   rad_node show STORE KEYRING           print each repository's identity and remotes
   rad_node heads STORE KEYRING          print each repository's canonical head
   rad_node audit STORE KEYRING          read the whole store again, and print what it counts
+  rad_node gen STORE COMMITS            import a repository that is made by rule, and report it
 
   STORE    the file of the store
   KEYRING  the file of names and accepted signatures
   BUNDLE   the file of a repository's objects and signed refs
+  COMMITS  a number from 1 to 100000
 
   --help     print this text
   --version  print the version

@@ -154,12 +154,19 @@ fn entries_in(alloc: Global, store: &[u8]) -> Result<Option<usize>, Fail> {
 
 #[test]
 fn words_are_read(rt: HostRuntime) -> Result<(), Fail> {
-    let cases: [(&[&str], Option<Command>); 12] = [
+    let cases: [(&[&str], Option<Command>); 19] = [
         (INIT, Some(Command::Init)),
         (IMPORT, Some(Command::Import)),
         (SHOW, Some(Command::Show)),
         (HEADS, Some(Command::Heads)),
         (AUDIT, Some(Command::Audit)),
+        (&["gen", "store", "1"], Some(Command::Gen(1))),
+        (&["gen", "store", "100000"], Some(Command::Gen(100_000))),
+        (&["gen", "store", "0"], None),
+        (&["gen", "store", "01"], None),
+        (&["gen", "store", "+1"], None),
+        (&["gen", "store", "100001"], None),
+        (&["gen", "store"], None),
         (&[], None),
         (&["init"], None),
         (&["init", ""], None),
@@ -216,6 +223,35 @@ fn each_command_prints_its_report(rt: HostRuntime) -> Result<(), Fail> {
         assert_eq!(rt; left.report.as_slice(), report.as_bytes());
         store = left.disk.bytes().to_vec(alloc)?;
     }
+    Ok(())
+}
+
+// A repository that is made by rule is taken into a store. Another one is not of its history.
+#[test]
+fn a_repository_is_made_by_rule(rt: HostRuntime) -> Result<(), Fail> {
+    let alloc = rt.alloc();
+    let left = run(
+        alloc,
+        &Given {
+            words: &["gen", "store", "1"],
+            ..GIVEN
+        },
+    )?;
+    assert_eq!(rt; left.status, Status::Ok);
+    assert_eq!(rt;
+        left.report.as_slice(),
+        b"commits 1\nobjects 11\nentries 4\nhead at b1ff3dd5533f3275a83636b43d14c1d29c4410a1\n".as_slice()
+    );
+    let again = run(
+        alloc,
+        &Given {
+            words: &["gen", "store", "2"],
+            store: left.disk.bytes(),
+            ..GIVEN
+        },
+    )?;
+    assert_eq!(rt; again.status, Status::NotLegal(4));
+    assert_eq!(rt; again.disk.bytes(), left.disk.bytes());
     Ok(())
 }
 

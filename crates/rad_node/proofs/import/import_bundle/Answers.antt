@@ -1,3 +1,5 @@
+use Rattle.std.proofs.Common.{ap, ◌∙◌}
+use Rattle.object_store.specs.declared.store.Store.{Store}
 use Rattle.std.specs.Io.KnownBytes.{Consumes, IsAtEnd}
 use Rattle.rad_base.specs.Faults.{Rose}
 use Rattle.rad_node.specs.Transfers.{GivesBy}
@@ -10,8 +12,8 @@ returns-clause-imported g c = λ files opened.
     let given = g.W.Sink.given in
     let run = c.run_job-end in
     let report = c.report_import-status in
-    rw c.close-disk.ensures.disk (imported g.D.Disk.reads_as g.D.Disk.images files run.result.1 (IsAtEnd (left run.new.input))
-    (Rose (g.W.Sink.faults c.args.out.now) (g.W.Sink.faults report.new.out)) (Consumes (left c.args.input.now) (left run.new.input))
+    rw (c.close-disk.ensures.disk ∙ ap (λ (s : Store g.row.D.Denot). s.journal.disk) report.ensures.same) (imported g.D.Disk.reads_as g.D.Disk.images files run.result.1 (IsAtEnd (left run.new.input))
+    (Rose (g.W.Sink.faults c.args.out.now) (g.W.Sink.faults report.new.out)) _ (Consumes (left c.args.input.now) (left run.new.input))
     (GivesBy report.result (given c.args.out.now) (given report.new.out)) report.result run.result.0
     (Rose (g.I.Source.faults c.args.input.now) (g.I.Source.faults run.new.input))
     (Rose (g.D.Disk.faults c.args.store.journal.disk) (g.D.Disk.faults run.result.1.journal.disk)) run.ensures.cause (run.ensures.run files opened)

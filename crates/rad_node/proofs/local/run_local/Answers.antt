@@ -1,7 +1,7 @@
 use Rattle.std.proofs.Common.{◌≡◌, MutBor, rules, subst, ap, ◌∙◌}
 use Rattle.rad_node.specs.Runs.{OnlyReadsDisk}
 use Rattle.rad_node.specs.declared.command.Command.{Command}
-use Rattle.rad_node.proofs.Commanding.{one_command, ordered_more}
+use Rattle.rad_node.proofs.Commanding.{in_range, one_command, ordered_more}
 use Rattle.rad_node.proofs.local.run_local.Goals as goal
 
 pub returns-clause-order : goal.returns-clause-order
@@ -24,3 +24,6 @@ pub returns-clause-done : goal.returns-clause-done
 returns-clause-done g c = λ command says.
     let same : c.disk-1.given.0 ≡ c.run_command-status.result.1.now = search rules in
     rw (one_command c.args.words.now command c.in-Some.command says c.in-Some.ensures.some) (rw same c.run_command-status.ensures.done)
+
+pub run_command-status-requires : goal.run_command-status-requires
+run_command-status-requires g c = in_range c.args.words.now c.in-Some.command c.in-Some.ensures.some
