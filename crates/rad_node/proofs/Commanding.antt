@@ -1,6 +1,6 @@
 -- The command of words, and what is said of it.
 use Rattle.std.specs.Str.Parse.{ParsesUnsigned}
-use Rattle.std.proofs.Common.{Result, Ok, subst, ◌<◌, ◌^◌, ◌≡◌, ℕ, List, [], ◌∷◌, String, get_or, refl, sym, ap, ◌∙◌, arith}
+use Rattle.std.proofs.Common.{Result, Ok, subst, ◌≡◌, ℕ, List, [], ◌∷◌, String, get_or, refl, sym, ap, ◌∙◌, arith}
 use Rattle.std.proofs.lemmas.Fmt.{decimal_injective, parse-decimal}
 use Rattle.rad_node.specs.Commands.{HasWords, IsCommitCount, IsInRange, IsPathAndCount, Says, name_of}
 use Rattle.rad_node.specs.Statuses.{IsOrdered}

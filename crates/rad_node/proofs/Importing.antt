@@ -1,6 +1,6 @@
 -- What an import is, by how its job ended and how the run ended.
 use Rattle.std.proofs.Common.{◌≡◌, ◌⊎◌, ◌↔◌, Bool, ℕ, List, [], ◌∷◌, ◌++◌, ⊎_elim, Option, None, Some, inl, inr, refl, sym, ap, ◌∙◌, subst}
-use Rattle.std.specs.Prelude.{IfSome, IsSome, Contains, IsTrue, length}
+use Rattle.std.specs.Prelude.{IsSome, Contains, IsTrue, length}
 use Rattle.rad_base.proofs.Conditions.{differ}
 use Rattle.rad_base.specs.declared.names.Nid.{Nid}
 use Rattle.rad_base.specs.declared.names.Rid.{Rid}
@@ -26,7 +26,7 @@ use Rattle.fetch_stages.specs.declared.job_end.ImportEnd.TheVariants as import
 use Rattle.fetch_stages.specs.declared.job_end.JobEnd.{JobEnd}
 use Rattle.fetch_stages.specs.declared.job_end.JobEnd.TheVariants as job
 use Rattle.store_reports.specs.Reports.{IsGeneratedReport}
-use Rattle.rad_node.specs.Imports.{AreTaken, Imported, IsBadInput, IsReported, TellsImport, TellsJob, IsJobReportEnd, IsMadeOf, IsRefusedEnd, IsRefusing, IsStatusOf, IsTaken, IsTaking, IsWholeRun, TellsEnd, fault_of, importing}
+use Rattle.rad_node.specs.Imports.{AreTaken, Imported, IsBadInput, IsReported, TellsImport, TellsJob, IsJobReportEnd, IsMadeOf, IsRefusedEnd, IsRefusing, IsReportable, IsStatusOf, IsTaken, IsTaking, IsWholeRun, TellsEnd, fault_of, importing}
 use Rattle.std.specs.Io.KnownBytes.{Consumes, IsAtEnd}
 use Rattle.rad_vectors.specs.Generated.{generated}
 use Rattle.rad_vectors.specs.Repositories.{IsBundleOf}
@@ -135,9 +135,10 @@ module _ {D : Type 0} (reads : D → Option (List ℕ)) (images : D → List ℕ
   imported_by : (s : Status) (result : ImportEnd) (h : HasRun reads images files consumed at_end store result) → (IsWholeRun s → h.unread ≡ [])
       → ((place : ℕ) → s ≡ status.InputBad place → IsBadInput at_end h.came place) → (s ≡ status.Ok → IsTaking at_end h.came)
       → (s ≡ status.SomeRefused → IsRefusing at_end h.came) → IsMadeOf (fault_of s) h.rid store.journal.end h.entries h.history
+      → (HasReport s → IsReportable at_end h.came)
       → (HasReport s → (text : List ℕ) × IsReported counted files.store store.keyring (h.stored ++ h.history) h.came h.rid text × gives text)
       → Imported counted files consumed at_end (images store.journal.disk) gives s
-  imported_by s result h whole bad ok refusing made report =
+  imported_by s result h whole bad ok refusing made ended report =
       let all = h.stored ++ h.history in
       record {
         keyring = store.keyring;
@@ -164,6 +165,7 @@ module _ {D : Type 0} (reads : D → Option (List ℕ)) (images : D → List ℕ
             (λ bytes m. image_of reads images store all m) h.store_has;
         legal = if_told (λ bytes. IsMade reads images store all) (λ bytes. (image : List ℕ) → images store.journal.disk image → ReopensLegal store.keyring image)
             files.store (λ bytes m. image_legal reads images store all m) h.store_has;
+        ended = ended;
         report = report;
       }
 
@@ -186,26 +188,26 @@ module _ {D : Type 0} (reads : D → Option (List ℕ)) (images : D → List ℕ
   is_reported result h end tells t = (t.0, report_told counted result h end t.0 tells t.1, t.2)
 
   -- the run reports how the job ended
-  reported : (s : Status) (result : ImportEnd) (h : HasRun reads images files consumed at_end store result) (end : JobEnd) → h.unread ≡ []
+  reported : (s : Status) (result : ImportEnd) (h : HasRun reads images files consumed at_end store result) (end : JobEnd) → h.unread ≡ [] → IsReportable at_end h.came
       → TellsEnd (importing store.keyring) h.came h.rid end → h.history ≡ h.entries → ((IsRefusedEnd end → ⊥) → IsTaking at_end h.came)
       → (IsRefusedEnd end → IsRefusing at_end h.came) → IsJobReportEnd end out s → (HasReport s → (text : List ℕ) × TellsJob counted store h.rid end text × gives text)
       → Imported counted files consumed at_end (images store.journal.disk) gives s
-  reported s result h end none tells all taking refusing (inl x) gave =
+  reported s result h end none ended tells all taking refusing (inl x) gave =
       subst (λ (t : Status). Imported counted files consumed at_end (images store.journal.disk) gives t) (sym x.0)
-      (imported_by status.Ok result h (λ w. none) (λ place e. absurd (cc e)) (λ e. taking x.1) (λ e. absurd (cc e)) all
+      (imported_by status.Ok result h (λ w. none) (λ place e. absurd (cc e)) (λ e. taking x.1) (λ e. absurd (cc e)) all (λ r. ended)
       (λ r. is_reported result h end tells (gave (subst HasReport (sym x.0) tt))))
-  reported s result h end none tells all taking refusing (inr (inl x)) gave =
+  reported s result h end none ended tells all taking refusing (inr (inl x)) gave =
       subst (λ (t : Status). Imported counted files consumed at_end (images store.journal.disk) gives t) (sym x.0)
-      (imported_by status.SomeRefused result h (λ w. none) (λ place e. absurd (cc e)) (λ e. absurd (cc e)) (λ e. refusing x.1) all
+      (imported_by status.SomeRefused result h (λ w. none) (λ place e. absurd (cc e)) (λ e. absurd (cc e)) (λ e. refusing x.1) all (λ r. ended)
       (λ r. is_reported result h end tells (gave (subst HasReport (sym x.0) tt))))
-  reported s result h end none tells all taking refusing (inr (inr (inl x))) gave =
+  reported s result h end none ended tells all taking refusing (inr (inr (inl x))) gave =
       subst (λ (t : Status). Imported counted files consumed at_end (images store.journal.disk) gives t) (sym x.0)
-      (imported_by status.WriteFault result h (λ w. none) (λ place e. absurd (cc e)) (λ e. absurd (cc e)) (λ e. absurd (cc e)) all
+      (imported_by status.WriteFault result h (λ w. none) (λ place e. absurd (cc e)) (λ e. absurd (cc e)) (λ e. absurd (cc e)) all (λ r. ended)
       (λ r. is_reported result h end tells (gave (subst HasReport (sym x.0) tt))))
-  reported s result h end none tells all taking refusing (inr (inr (inr x))) gave =
+  reported s result h end none ended tells all taking refusing (inr (inr (inr x))) gave =
       subst (λ (t : Status). Imported counted files consumed at_end (images store.journal.disk) gives t) (sym x)
       (imported_by status.NoMemory result h (λ w. none) (λ place e. absurd (cc e)) (λ e. absurd (cc e)) (λ e. absurd (cc e))
-      (all_made h.rid store.journal.end h.entries h.history all) (λ r. absurd r))
+      (all_made h.rid store.journal.end h.entries h.history all) (λ r. absurd r) (λ r. absurd r))
 
   -- a call of the store was refused
   stopped : (s : Status) (why : KeepFault) (result : ImportEnd) (h : HasRun reads images files consumed at_end store result)
@@ -214,24 +216,24 @@ module _ {D : Type 0} (reads : D → Option (List ℕ)) (images : D → List ℕ
   stopped s why result h made e bars =
       imported_by s result h (λ w. absurd (bars w)) (λ place f. absurd (bars (subst IsWholeRun (sym f) tt))) (λ f. absurd (bars (subst IsWholeRun (sym f) tt)))
       (λ f. absurd (bars (subst IsWholeRun (sym f) tt))) (subst (λ (o : Option KeepFault). IsMadeOf o h.rid store.journal.end h.entries h.history) (sym e) made)
-      (λ r. absurd (bars (whole_report s r)))
+      (λ r. absurd (bars (whole_report s r))) (λ r. absurd (bars (whole_report s r)))
 
   pub imported : (s : Status) (result : ImportEnd) → (input disk : Type 0) → IsEndCaused input disk result
       → HasRun reads images files consumed at_end store result → IsStatusOf out result s → (HasReport s → (text : List ℕ) × TellsImport counted store result text × gives text)
       → Imported counted files consumed at_end (images store.journal.disk) gives s
   imported s (import.Ended of (job.Done judged head)) input disk c h x gave =
       let tells = h.made.1 in
-      reported s (import.Ended of (job.Done judged head)) h (job.Done judged head) (h.whole tt) tells h.made.3
+      reported s (import.Ended of (job.Done judged head)) h (job.Done judged head) (h.whole tt) (subst (IsReportable at_end) (sym tells.1) h.made.2) tells h.made.3
       (λ free. subst (IsTaking at_end) (sym tells.1) (all_taken judged.outcomes free, h.made.2))
       (λ bars. subst (IsRefusing at_end) (sym tells.1) (bars, h.made.2)) x
       (λ r. subst (λ (q : Rid). (text : List ℕ) × TellsJob counted store q (job.Done judged head) text × gives text) h.made.0 (gave r))
   imported s (import.Ended of (job.Refused why)) input disk c h x gave =
       let tells = h.made.1 in
-      reported s (import.Ended of (job.Refused why)) h (job.Refused why) (h.whole tt) tells h.made.3 (λ free. absurd (free tt))
+      reported s (import.Ended of (job.Refused why)) h (job.Refused why) (h.whole tt) (subst (IsReportable at_end) (sym tells.1) h.made.2) tells h.made.3 (λ free. absurd (free tt))
       (λ bars. subst (IsRefusing at_end) (sym tells.1) h.made.2) x
       (λ r. subst (λ (q : Rid). (text : List ℕ) × TellsJob counted store q (job.Refused why) text × gives text) h.made.0 (gave r))
   imported s (import.Ended of job.TooLong) input disk c h x gave =
-      reported s (import.Ended of job.TooLong) h job.TooLong (h.whole tt) h.made.1 h.made.2 (λ free. absurd (free tt))
+      reported s (import.Ended of job.TooLong) h job.TooLong (h.whole tt) (subst (IsReportable at_end) (sym h.made.1) tt) h.made.1 h.made.2 (λ free. absurd (free tt))
       (λ bars. subst (IsRefusing at_end) (sym h.made.1) tt) x
       (λ r. subst (λ (q : Rid). (text : List ℕ) × TellsJob counted store q job.TooLong text × gives text) h.made.0 (gave r))
   imported s (import.Ended of job.DiskFault) input disk c h x gave =
@@ -247,11 +249,11 @@ module _ {D : Type 0} (reads : D → Option (List ℕ)) (images : D → List ℕ
   imported s import.ReadFault input disk c h x gave =
       subst (λ (t : Status). Imported counted files consumed at_end (images store.journal.disk) gives t) (sym x)
       (imported_by (status.ReadFault source.Input) import.ReadFault h (λ w. absurd w) (λ place e. absurd (cc e)) (λ e. absurd (cc e)) (λ e. absurd (cc e)) h.made
-      (λ r. absurd r))
+      (λ r. absurd r) (λ r. absurd r))
   imported s (import.InputBad place) input disk c h x gave =
       subst (λ (t : Status). Imported counted files consumed at_end (images store.journal.disk) gives t) (sym x)
       (imported_by (status.InputBad place) (import.InputBad place) h (λ w. h.whole tt)
-      (λ other e. subst (IsBadInput at_end h.came) (one_place place other e) h.made.0) (λ e. absurd (cc e)) (λ e. absurd (cc e)) h.made.1 (λ r. absurd r))
+      (λ other e. subst (IsBadInput at_end h.came) (one_place place other e) h.made.0) (λ e. absurd (cc e)) (λ e. absurd (cc e)) h.made.1 (λ r. absurd r) (λ r. absurd r))
   imported s import.NoMemory input disk c h x gave =
       subst (λ (t : Status). Imported counted files consumed at_end (images store.journal.disk) gives t) (sym x)
       (stopped status.NoMemory fault.NoMemory import.NoMemory h h.made refl (λ w. w))

@@ -1,6 +1,7 @@
 -- What opening a store answers, by the keyring file and the store.
-use Rattle.std.proofs.Common.{◌≡◌, ℕ, List, Option, None, Some, refl, sym, subst}
+use Rattle.std.proofs.Common.{◌≡◌, ℕ, List, Option, None, Some, inl, inr, refl, sym, subst, arith}
 use Rattle.std.specs.Prelude.{IfSome, Ok}
+use Rattle.rad_base.specs.Faults.{Rose}
 use Rattle.keyring.specs.Contents.{Contents}
 use Rattle.ref_journal.specs.Holds.{Holds}
 use Rattle.repo_entries.specs.Items.{Item}
@@ -11,7 +12,15 @@ use Rattle.object_store.specs.declared.faults.Why.{Why}
 use Rattle.object_store.specs.declared.faults.Why.TheVariants as why
 use Rattle.object_store.specs.declared.store.Store.{Store}
 use Rattle.rad_node.specs.Opening.{HasOpened, IsOpeningFault, status_of}
-use Rattle.rad_node.specs.Statuses.{AreGood, Files, IsIllegalStore, SaysKeyring}
+use Rattle.rad_node.specs.Imports.{IsImportEnd}
+use Rattle.rad_node.specs.Printing.{IsPrintingEnd, command_for}
+use Rattle.rad_node.specs.declared.command.Command.TheVariants as command
+use Rattle.rad_node.specs.declared.printing.Report.{Report}
+use Rattle.rad_node.specs.declared.printing.Report.TheVariants as reports
+use Rattle.rad_node.specs.declared.status.Status.{Status}
+use Rattle.rad_node.specs.declared.status.Status.TheVariants as status
+use Rattle.rad_node.specs.declared.status.WhichSource.TheVariants as source
+use Rattle.rad_node.specs.Statuses.{AreGood, Files, HasKeyring, IsCaused, IsSaid, IsIllegalStore, SaysKeyring}
 use Rattle.rad_node.proofs.Running.{if_told}
 
 -- the store stands for some entries, and for those of its bytes where these are told
@@ -31,13 +40,19 @@ has_opened reads images file (Some bytes) keyring store says opens h = record {
   image = (h.1, h.3);
 }
 
+-- a keyring that was read is one
+pub has_keyring : (file : Option (List ℕ)) (keyring : Contents) → IfSome file (λ bytes. SaysKeyring bytes keyring)
+    → IfSome file (λ bytes. (k : Contents) × SaysKeyring bytes k)
+has_keyring file keyring says =
+    if_told (λ bytes. SaysKeyring bytes keyring) (λ bytes. (k : Contents) × SaysKeyring bytes k) file (λ bytes s. (keyring, s)) says
+
 -- a refusal is explained
 pub opening_fault : (file told : Option (List ℕ)) (keyring : Contents) (keys rose : Type 0) (w : Why) → IfSome file (λ bytes. SaysKeyring bytes keyring)
     → (w ≡ why.DiskFault → rose) → IfSome told (λ bytes. Explains keyring bytes w)
     → IsOpeningFault (record { keyring = file; store = told }) keys rose (status_of w)
-opening_fault file told keyring keys rose why.DiskFault says cause h = cause refl
-opening_fault file told keyring keys rose why.Unmade says cause h = h
-opening_fault file told keyring keys rose (why.Damaged place) says cause h = h
+opening_fault file told keyring keys rose why.DiskFault says cause h = (cause refl, has_keyring file keyring says)
+opening_fault file told keyring keys rose why.Unmade says cause h = (has_keyring file keyring says, h)
+opening_fault file told keyring keys rose (why.Damaged place) says cause h = (has_keyring file keyring says, h)
 opening_fault file told keyring keys rose (why.NotLegal n) says cause h =
     if_told (λ bytes. (items : List Item) × IsStoreImage bytes items × IsIllegalAt keyring n items)
     (IsIllegalStore (record { keyring = file; store = told }) n) told
@@ -53,3 +68,69 @@ opened_good reads images files store o = record {
       files.store (λ bytes x. x.0) o.image;
   legal = o.stands.legal;
 }
+
+-- a run that opened its store and took the bundle says nothing more of its files
+pub import_said : (files : Files) (s : Status) → HasKeyring files → IsImportEnd s → IsSaid command.Import files s
+import_said files status.Ok h i = tt
+import_said files status.Usage h i = i
+import_said files (status.ReadFault source.Keys) h i = tt
+import_said files (status.ReadFault source.Rules) h i = i
+import_said files (status.ReadFault source.Input) h i = tt
+import_said files status.WriteFault h i = tt
+import_said files status.DiskFault h i = h
+import_said files status.Unmade h i = absurd i
+import_said files (status.Damaged place) h i = absurd i
+import_said files (status.KeyringBad line) h i = absurd i
+import_said files (status.InputBad place) h i = tt
+import_said files status.SomeRefused h i = tt
+import_said files status.Full h i = tt
+import_said files (status.NotLegal n) h i = absurd i
+import_said files status.AlreadyMade h i = absurd i
+import_said files (status.Changed change) h i = i
+import_said files status.NoMemory h i = tt
+
+-- nor does one that prints
+pub printing_said : (which : Report) (files : Files) (out : Type 0) (s : Status) → IsPrintingEnd out s → IsSaid (command_for which) files s
+printing_said reports.Show files out s (inl x) = rw x tt
+printing_said reports.Show files out s (inr (inl x)) = rw x.0 tt
+printing_said reports.Show files out s (inr (inr x)) = rw x tt
+printing_said reports.Heads files out s (inl x) = rw x tt
+printing_said reports.Heads files out s (inr (inl x)) = rw x.0 tt
+printing_said reports.Heads files out s (inr (inr x)) = rw x tt
+printing_said reports.Audit files out s (inl x) = rw x tt
+printing_said reports.Audit files out s (inr (inl x)) = rw x.0 tt
+printing_said reports.Audit files out s (inr (inr x)) = rw x tt
+
+not_init : command.Import ≡ command.Init → ⊥
+not_init e = cc e
+
+no_rise : Rose 0 0 → ⊥
+no_rise r = omega (arith, r)
+
+-- what is said of an import under a made keyring is said of its making; no call of its sources fails
+said_by_rule : (commits : ℕ) (files : Files) (keys input disk out : Type 0) (s : Status) → (keys → ⊥) → (input → ⊥) → IsCaused s keys input disk out
+    → IsSaid command.Import files s → IsSaid (command.Gen commits) files s
+said_by_rule commits files keys input disk out status.Ok no_keys no_input c h = h
+said_by_rule commits files keys input disk out status.Usage no_keys no_input c h = h
+said_by_rule commits files keys input disk out (status.ReadFault source.Keys) no_keys no_input c h = no_keys c
+said_by_rule commits files keys input disk out (status.ReadFault source.Rules) no_keys no_input c h = h
+said_by_rule commits files keys input disk out (status.ReadFault source.Input) no_keys no_input c h = no_input c
+said_by_rule commits files keys input disk out status.WriteFault no_keys no_input c h = h
+said_by_rule commits files keys input disk out status.DiskFault no_keys no_input c h = h
+said_by_rule commits files keys input disk out status.Unmade no_keys no_input c h = h
+said_by_rule commits files keys input disk out (status.Damaged place) no_keys no_input c h = h
+said_by_rule commits files keys input disk out (status.KeyringBad line) no_keys no_input c h = h
+said_by_rule commits files keys input disk out (status.InputBad place) no_keys no_input c h = h
+said_by_rule commits files keys input disk out status.SomeRefused no_keys no_input c h = h
+said_by_rule commits files keys input disk out status.Full no_keys no_input c h = h
+said_by_rule commits files keys input disk out (status.NotLegal n) no_keys no_input c h = h
+said_by_rule commits files keys input disk out status.AlreadyMade no_keys no_input c h = absurd (not_init h.0)
+said_by_rule commits files keys input disk out (status.Changed change) no_keys no_input c h = h
+said_by_rule commits files keys input disk out status.NoMemory no_keys no_input c h = h
+
+pub generated_said : (commits : ℕ) (keyring made : List ℕ) (store : Option (List ℕ)) (disk out : Type 0) (s : Status) → keyring ≡ made
+    → IsCaused s (Rose 0 0) (Rose 0 0) disk out → IsSaid command.Import (record { keyring = Some keyring; store = store }) s
+    → IsSaid (command.Gen commits) (record { keyring = Some made; store = store }) s
+generated_said commits keyring made store disk out s same c h =
+    said_by_rule commits (record { keyring = Some made; store = store }) (Rose 0 0) (Rose 0 0) disk out s no_rise no_rise c
+    (subst (λ (k : List ℕ). IsSaid command.Import (record { keyring = Some k; store = store }) s) same h)

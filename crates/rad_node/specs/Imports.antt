@@ -86,6 +86,14 @@ IsRefusing at_end (Verdict rid on (Err why)) = at_end
 IsRefusing at_end (Unjudged rid) = ⊥
 IsRefusing at_end (Long rid) = Unit {0}
 
+-- by its bytes an import has a report: nothing follows the bundle, or it is too long
+abbrev pub IsReportable : Type 0 → Came → Type 0
+IsReportable at_end (Bad place) = ⊥
+IsReportable at_end (Inside place) = ⊥
+IsReportable at_end (Verdict rid on verdict) = at_end
+IsReportable at_end (Unjudged rid) = ⊥
+IsReportable at_end (Long rid) = Unit {0}
+
 -- a unit is broken at this place, or the bundle has ended there and bytes follow, or the input ends inside
 -- the unit there
 abbrev pub IsBadInput : Type 0 → Came → ℕ → Type 0
@@ -198,8 +206,8 @@ IsWholeRun other = ⊥
 -- The import of a bundle into a store that has these entries. The bundle's bytes were taken, and the job of
 -- those that were read has its entries and its stop. Those that were made stand behind the stored ones: every
 -- image that a crash now may leave is a journal of the durable part of both, or of it and the one entry in
--- doubt that the last missed one names, and is opened again as a legal history. Where a report was given it is
--- that of the job's end.
+-- doubt that the last missed one names, and has the bodies of a legal history. Where a report was given it is
+-- that of the job's end, and nothing follows the bundle or it is too long.
 pub record Imported (counted : Option ℕ) (files : Files) (consumed : List ℕ → Type 0) (at_end : Type 0) (images gives : List ℕ → Type 0) (result : Status) : Type 0 where
   pub keyring : Contents
   pub stored : List Item
@@ -222,4 +230,5 @@ pub record Imported (counted : Option ℕ) (files : Files) (consumed : List ℕ 
   pub end_is : IfSome files.store (λ _. end ≡ gate_behind (bodies_of (durable_part (stored ++ history))))
   pub images_are : IfSome files.store (λ _. (image : List ℕ) → images image → IsImageOf (stored ++ history) image)
   pub legal : IfSome files.store (λ _. (image : List ℕ) → images image → ReopensLegal keyring image)
+  pub ended : HasReport result → IsReportable at_end came
   pub report : HasReport result → (text : List ℕ) × IsReported counted files.store keyring (stored ++ history) came rid text × gives text

@@ -9,7 +9,7 @@ use Rattle.object_store.specs.Stores.{StandsFor}
 use Rattle.object_store.specs.declared.faults.Why.{Why}
 use Rattle.object_store.specs.declared.faults.Why.TheVariants as why
 use Rattle.object_store.specs.declared.store.Store.{Store}
-use Rattle.rad_node.specs.Statuses.{Files, IsBadKeyring, IsDamagedStore, IsIllegalStore, SaysKeyring}
+use Rattle.rad_node.specs.Statuses.{Files, HasKeyring, IsBadKeyring, IsDamagedStore, IsIllegalStore, SaysKeyring}
 use Rattle.rad_node.specs.declared.opening.Refusal.{Refusal}
 use Rattle.rad_node.specs.declared.status.Status.{Status}
 use Rattle.rad_node.specs.declared.status.Status.TheVariants as status
@@ -29,9 +29,9 @@ IsKeyringFault file fault other = ⊥
 
 -- why no store is opened
 abbrev pub IsOpeningFault : Files → Type 0 → Type 0 → Status → Type 0
-IsOpeningFault files keys disk status.DiskFault = disk
-IsOpeningFault files keys disk status.Unmade = IfSome files.store IsUnmade
-IsOpeningFault files keys disk (status.Damaged place) = IfSome files.store (IsDamagedStore place)
+IsOpeningFault files keys disk status.DiskFault = disk × HasKeyring files
+IsOpeningFault files keys disk status.Unmade = HasKeyring files × IfSome files.store IsUnmade
+IsOpeningFault files keys disk (status.Damaged place) = HasKeyring files × IfSome files.store (IsDamagedStore place)
 IsOpeningFault files keys disk (status.NotLegal n) = IfSome files.store (IsIllegalStore files n)
 IsOpeningFault files keys disk other = IsKeyringFault files.keyring keys other
 

@@ -134,15 +134,37 @@ ReadsSource command source.Keys = ReadsKeyring command
 ReadsSource command source.Rules = ⊥
 ReadsSource command source.Input = ReadsBundle command
 
+-- the command may meet a want of memory
+abbrev pub TakesMemory : Command → Type 0
+TakesMemory Init = ⊥
+TakesMemory Import = Unit {0}
+TakesMemory Show = Unit {0}
+TakesMemory Heads = Unit {0}
+TakesMemory Audit = Unit {0}
+TakesMemory (Gen commits) = Unit {0}
+
+-- the keyring file, where it is told, was read
+abbrev pub HasKeyring : Files → Type 0
+HasKeyring files = IfSome files.keyring (λ file. (keyring : Contents) × SaysKeyring file keyring)
+
+-- a command that opens a store has read its keyring before it asks the disk
+abbrev pub HasReadKeyring : Command → Files → Type 0
+HasReadKeyring Init files = Unit {0}
+HasReadKeyring Import files = HasKeyring files
+HasReadKeyring Show files = HasKeyring files
+HasReadKeyring Heads files = HasKeyring files
+HasReadKeyring Audit files = HasKeyring files
+HasReadKeyring (Gen commits) files = HasKeyring files
+
 -- a command may end so, and what is said of the files is so
 abbrev pub IsSaid : Command → Files → Status → Type 0
 IsSaid command files Ok = Unit {0}
 IsSaid command files Usage = ⊥
 IsSaid command files (ReadFault which) = ReadsSource command which
 IsSaid command files WriteFault = Unit {0}
-IsSaid command files DiskFault = Unit {0}
-IsSaid command files Unmade = OpensStore command × IfSome files.store IsUnmade
-IsSaid command files (Damaged place) = OpensStore command × IfSome files.store (IsDamagedStore place)
+IsSaid command files DiskFault = HasReadKeyring command files
+IsSaid command files Unmade = OpensStore command × HasKeyring files × IfSome files.store IsUnmade
+IsSaid command files (Damaged place) = OpensStore command × HasKeyring files × IfSome files.store (IsDamagedStore place)
 IsSaid command files (KeyringBad line) = OpensStore command × IfSome files.keyring (IsBadKeyring line)
 IsSaid command files (InputBad place) = TakesBundle command
 IsSaid command files SomeRefused = TakesBundle command
@@ -150,7 +172,7 @@ IsSaid command files Full = TakesBundle command
 IsSaid command files (NotLegal n) = OpensStore command × IfSome files.store (IsIllegalStore files n)
 IsSaid command files AlreadyMade = (command ≡ Init) × IfSome files.store (λ bytes. IsUnmade bytes → ⊥)
 IsSaid command files (Changed change) = ⊥
-IsSaid command files NoMemory = Unit {0}
+IsSaid command files NoMemory = TakesMemory command
 
 -- the run ended at its keyring
 abbrev pub IsKeyringEnd : Status → Type 0

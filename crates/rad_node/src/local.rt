@@ -71,7 +71,8 @@ fn run_command<D: Disk, S: Source, I: Source, W: Sink>(
 ///   268,435,456 bytes.
 /// - `InputBad`: the bundle is broken, ends inside a unit, or has ended and bytes follow; the place
 ///   of that unit. The store has the entries from before it.
-/// - `SomeRefused`: the offer or one of its remotes was refused. The report says why.
+/// - `SomeRefused`: the offer or one of its remotes was refused, or its sections are too long. The
+///   report of an import says why.
 /// - `Full`: the store has no room for the next entry.
 /// - `NotLegal`: the store's first entry that is not legal under the keyring.
 /// - `AlreadyMade`: a store is made. It stays as it was.

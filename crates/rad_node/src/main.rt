@@ -33,7 +33,7 @@ usage: rad_node COMMAND
 Keeps repositories of the Radicle network in a store: identities, and the signed branches of each
 person, as they were accepted.
 
-  rad_node init STORE                   make an empty store
+  rad_node init STORE                   make an empty store; a file that is none is lost
   rad_node import STORE KEYRING BUNDLE  take what a bundle offers into the store, and report it
   rad_node show STORE KEYRING           print each repository's identity and remotes
   rad_node heads STORE KEYRING          print each repository's canonical head
@@ -54,8 +54,8 @@ for example:
 
 exit status: 0 done; 1 no command; 2 a file is not read; 3 the report is not written; 4 the store's
 file failed; 5 no store is made; 6 the store is damaged; 7 the keyring is broken at a line; 9 the
-bundle is broken at a byte; 10 something was refused, as the report says; 11 the store is full; 12 an
-entry of the store is not legal under the keyring; 13 a store is made already; 70 no memory
+bundle is broken at a byte; 10 something was refused; 11 the store is full; 12 an entry of the store
+is not legal under the keyring; 13 a store is made already; 70 no memory
 ";
 
 const VERSION: &str = "rad_node 0.1.0\n";

@@ -50,7 +50,8 @@ pub enum Status {
     /// The bundle's broken unit, the one in which it ends, or where it has ended and bytes follow:
     /// the place in bytes from 0.
     InputBad(u64),
-    /// The offer or one of its remotes was refused. The report says why.
+    /// The offer or one of its remotes was refused, or its sections are too long. The report of an
+    /// import says why.
     SomeRefused,
     /// The store would be longer than 2^40 bytes.
     Full,

@@ -1,4 +1,4 @@
-use Rattle.rad_node.proofs.Openings.{opened_good}
+use Rattle.rad_node.proofs.Openings.{opened_good, printing_said}
 use Rattle.rad_node.proofs.printing.print_store.Goals as goal
 
 pub returns-in-Ok-clause-done : goal.returns-in-Ok-clause-done
@@ -13,3 +13,6 @@ returns-in-Ok-clause-done g c = λ r.
       is = p.1;
       given = p.2;
     }
+
+pub returns-in-Ok-clause-said : goal.returns-in-Ok-clause-said
+returns-in-Ok-clause-said g c = printing_said c.args.which _ _ c.print_on.result.0 c.print_on.ensures.end
