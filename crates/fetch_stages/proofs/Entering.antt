@@ -58,14 +58,14 @@ pub same_caller : (old new : Constants) → new ≡ old → new.caller ≡ old.c
 same_caller old new e = ap (λ (constants : Constants). constants.caller) e
 
 -- no call, no entry
-pub makes_none : {K : Type 0} (made : K → List Item → Type 0) (k : K) → Makes made k k []
-makes_none {K} made k before h = subst (λ (l : List Item). made k l) (sym (append-nil before)) h
+pub makes_none : {K O : Type 0} (made : K → O → List Item → Type 0) (k : K) → Makes made k k []
+makes_none made k origin before h = subst (λ (l : List Item). made k origin l) (sym (append-nil before)) h
 
 -- entries behind entries
-pub makes_along : {K : Type 0} (made : K → List Item → Type 0) (a b c : K) (xs ys : List Item)
+pub makes_along : {K O : Type 0} (made : K → O → List Item → Type 0) (a b c : K) (xs ys : List Item)
     → Makes made a b xs → Makes made b c ys → Makes made a c (xs ++ ys)
-makes_along made a b c xs ys f g before h =
-    subst (λ (l : List Item). made c l) (append_assoc before xs ys) (g (before ++ xs) (f before h))
+makes_along made a b c xs ys f g origin before h =
+    subst (λ (l : List Item). made c origin l) (append_assoc before xs ys) (g origin (before ++ xs) (f origin before h))
 
 doubt_more : (rest more : List Item) (left : Left) → MayLeave rest left → MayLeave (rest ++ more) left
 doubt_more [] [] left h = h
@@ -79,7 +79,7 @@ room_more end (item ∷ rest) more h = h
 no_memory_is_not_full : fault.NoMemory ≡ fault.Full → ⊥
 no_memory_is_not_full e = cc e
 
-module _ {K : Type 0} (made : K → List Item → Type 0) (rid : Rid) (caller : ℕ) where
+module _ {K O : Type 0} (made : K → O → List Item → Type 0) (rid : Rid) (caller : ℕ) where
   -- puts behind puts
   pub puts_along : (a b c : K) (xs ys : List (List Object)) → Makes made a b (puts_of rid caller xs)
       → Makes made b c (puts_of rid caller ys) → Makes made a c (puts_of rid caller (xs ++ ys))

@@ -20,7 +20,7 @@ use Rattle.fetch_stages.specs.declared.job_end.JobEnd.TheVariants as job
 use Rattle.fetch_stages.proofs.Entering.{makes_along, stops_behind}
 use Rattle.fetch_stages.proofs.Told.{verdict_on}
 
-module _ {K : Type 0} (made : K → List Item → Type 0) (constants : Constants) (rid : Rid) (end : ℕ) (a b : K) (on held : Held)
+module _ {K O : Type 0} (made : K → O → List Item → Type 0) (constants : Constants) (rid : Rid) (end : ℕ) (a b : K) (on held : Held)
     (offer : Offer) (place : ℕ) (slice : HasSlice on.state on.objects held) where
   -- the verdict is entered
   pub enters : (verdict same : Result Judged Whole) → verdict ≡ same → IsVerdictOn constants held offer All verdict
@@ -47,7 +47,7 @@ module _ {K : Type 0} (made : K → List Item → Type 0) (constants : Constants
   )
 
 -- the refusal is the end
-pub finishes_refused : {K : Type 0} (made : K → List Item → Type 0) (constants : Constants) (rid : Rid) (end : ℕ) (a b : K) (on : Held)
+pub finishes_refused : {K O : Type 0} (made : K → O → List Item → Type 0) (constants : Constants) (rid : Rid) (end : ℕ) (a b : K) (on : Held)
     (offer : Offer) (place : ℕ) (finally : Held) (rest : List ℕ) (at_end : Type 0) (why : KeepFault) (answer : JobEnd)
     → answer ≡ end_at why → StopsJudging made (setting_of constants rid) end a b on offer place why
     → FinishesBy made (setting_of constants rid) end a b on offer place finally rest at_end (import.Ended rid answer)
@@ -56,7 +56,7 @@ finishes_refused made constants rid end a b on offer place finally rest at_end f
 finishes_refused made constants rid end a b on offer place finally rest at_end (fault.Changed change) answer e s = rw e (refl, s)
 finishes_refused made constants rid end a b on offer place finally rest at_end fault.NoMemory answer e s = rw e (refl, s)
 
-module _ {K : Type 0} (made : K → List Item → Type 0) (constants : K → Constants) (end : K → ℕ) (held : K → Rid → Held) (rid : Rid)
+module _ {K O : Type 0} (made : K → O → List Item → Type 0) (constants : K → Constants) (end : K → ℕ) (held : K → Rid → Held) (rid : Rid)
     (a b c : K) (on : Held) (offer : Offer) (place : ℕ) (rest : List ℕ) (at_end : Type 0) (judged : Judged)
     (enter : Enters made (setting_of (constants a) rid) a b on offer (Ok judged)) (none : rest ≡ []) (ended : at_end)
     (left : HeldBehind on (Ok judged) (held b rid)) (same : constants b ≡ constants a) (slice : held c rid ≡ held b rid) where

@@ -39,7 +39,7 @@ pub unnamed : {K : Type 0} (constants : K → Constants) (loan faults : K → �
 unnamed constants loan faults held rid a c bytes name stands leaves other bars =
     leaves.others other (stands other) (λ e. bars (subst (λ (r : Rid). IsNamedBy bytes r) (sym e) name))
 
-module _ {K : Type 0} (made : K → List Item → Type 0) (constants : Constants) (end : ℕ) (held : K → Rid → Held) (rid : Rid) (a c : K)
+module _ {K O : Type 0} (made : K → O → List Item → Type 0) (constants : Constants) (end : ℕ) (held : K → Rid → Held) (rid : Rid) (a c : K)
     (l l' : Option (List ℕ)) (name : IsOid rid.0) where
   -- what an import is, by the job of its bytes
   imports_by : (result : ImportEnd) (rest unread : List ℕ) (entries : List Item) (found : JobStop)
@@ -69,7 +69,7 @@ came_bad rid count place size limit at_end found (inl x) = inr (ap (λ (f : JobS
 came_bad rid count place size limit at_end found (inr x) = inl (ap (λ (f : JobStop). came_of rid count f) x.1)
 
 -- a job whose sections are not all put
-pub imports_stopped : {K : Type 0} (made : K → List Item → Type 0) (constants : Constants) (end : ℕ) (held : K → Rid → Held) (rid : Rid)
+pub imports_stopped : {K O : Type 0} (made : K → O → List Item → Type 0) (constants : Constants) (end : ℕ) (held : K → Rid → Held) (rid : Rid)
     (a c : K) (l l' l'' : Option (List ℕ)) (between : List ℕ) (why : BundleStop) (result : ImportEnd) → IsOid rid.0
     → Uses l l' [] rid.0.0 between → StopsJob made (setting_of constants rid) (held a rid) end a c l' l'' between why
     → ((bytes : List ℕ) → IsNamedBy bytes rid → KeepsUnnamed bytes (held a) (held c)) → result ≡ end_of rid why
@@ -116,7 +116,7 @@ pub came_behind : (rid : Rid) (count place : ℕ) (on : Held) (verdict : Result 
 came_behind rid count place on verdict more =
     ap (λ (t : Bool). if t then Verdict rid on verdict else Bad (20 + place)) (ne_eqb count (20 + place) (λ e. omega (arith, more, e)))
 
-module _ {K : Type 0} (made : K → List Item → Type 0) (constants : Constants) (end : ℕ) (held : K → Rid → Held) (rid : Rid)
+module _ {K O : Type 0} (made : K → O → List Item → Type 0) (constants : Constants) (end : ℕ) (held : K → Rid → Held) (rid : Rid)
     (a b c : K) (offer : Offer) (place : ℕ) (l l' l'' l''' : Option (List ℕ)) (between after rest : List ℕ) (name : IsOid rid.0)
     (u : Uses l l' [] rid.0.0 between)
     (p : PutsJob made held (setting_of constants rid) (held a rid) a b offer place l' l'' between after)
@@ -217,7 +217,7 @@ module _ {K : Type 0} (made : K → List Item → Type 0) (constants : Constants
   imports_finished import.NoMemory x = absurd x
 
 -- bytes that are no name
-pub imports_unnamed : {K : Type 0} (made : K → List Item → Type 0) (constants : Constants) (end : ℕ) (held : K → Rid → Held) (k : K)
+pub imports_unnamed : {K O : Type 0} (made : K → O → List Item → Type 0) (constants : Constants) (end : ℕ) (held : K → Rid → Held) (k : K)
     (l l' : Option (List ℕ)) (used unread : List ℕ) (result : ImportEnd) → Uses l l' [] used unread → length used < 20
     → (IsWhole result → unread ≡ []) → EndsBy made constants end k k (held k) (IsAtEnd l') [] (Inside 0) result
     → IsEndOf used result → Imports made constants end (held k) (held k) k k l l' result
@@ -237,7 +237,7 @@ imports_unnamed made constants end held k l l' used unread result u few whole en
 }
 
 -- no byte is taken
-pub imports_nothing : {K : Type 0} (made : K → List Item → Type 0) (constants : Constants) (end : ℕ) (held : K → Rid → Held) (k : K)
+pub imports_nothing : {K O : Type 0} (made : K → O → List Item → Type 0) (constants : Constants) (end : ℕ) (held : K → Rid → Held) (k : K)
     (l : Option (List ℕ)) → Imports made constants end (held k) (held k) k k l l import.NoMemory
 imports_nothing made constants end held k l =
     imports_unnamed made constants end held k l l [] [] import.NoMemory (uses_none l []) (omega arith) (λ h. absurd h)

@@ -25,7 +25,7 @@ use Rattle.fetch_stages.specs.Jobs.{Breaks, EndsIn, IsJob, JobStop, NotServed, P
 use Rattle.fetch_stages.proofs.Importing.{came_behind, came_whole}
 use Rattle.fetch_stages.proofs.JobFronts.{BothPass, Compares, begin_behind, jobs_compare, puts_in}
 use Rattle.fetch_stages.proofs.Next.{front_behind}
-use Rattle.fetch_stages.proofs.OneRefusal.{one_verdict_on}
+use Rattle.fetch_stages.proofs.OneVerdicts.{one_verdict_on}
 use Rattle.fetch_stages.proofs.Passing.{limited_few, limited_many}
 use Rattle.fetch_stages.proofs.SectionFronts.{Stays}
 

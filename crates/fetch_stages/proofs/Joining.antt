@@ -14,13 +14,13 @@ use Rattle.fetch_stages.proofs.Entering.{makes_none, puts_along, stops_behind_pu
 use Rattle.fetch_stages.proofs.Holding.{holds_along, holds_none, holds_one}
 
 -- the first of the objects joined, and these are left
-pub record HasCome {K : Type 0} (made : K → List Item → Type 0) (held : K → Rid → Held) (rid : Rid)
+pub record HasCome {K O : Type 0} (made : K → O → List Item → Type 0) (held : K → Rid → Held) (rid : Rid)
     (caller : ℕ) (old new : K) (waiting objects left next : List Object) : Type 0 where
   pub shown : List Object
   pub all : objects ≡ shown ++ left
   pub joins : Joins made held rid caller old new waiting shown next
 
-module _ {K : Type 0} (made : K → List Item → Type 0) (held : K → Rid → Held) (rid : Rid) (caller : ℕ) where
+module _ {K O : Type 0} (made : K → O → List Item → Type 0) (held : K → Rid → Held) (rid : Rid) (caller : ℕ) where
   -- no batch is put
   pub batches_none : (k : K) → PutsBatches made held rid caller k k []
   batches_none k = record { entered = makes_none made k; slice = holds_none (held k rid) }
@@ -129,7 +129,7 @@ module _ {K : Type 0} (made : K → List Item → Type 0) (held : K → Rid → 
       → PutsBatches made held rid caller old new (waiting ∷ []) → PutsAll made held rid caller old new waiting
   puts_last old new waiting some g before puts cut = (waiting ∷ [], finished before puts waiting cut some, g)
 
-module _ {K : Type 0} (made : K → List Item → Type 0) (rid : Rid) (caller : ℕ) where
+module _ {K O : Type 0} (made : K → O → List Item → Type 0) (rid : Rid) (caller : ℕ) where
   -- a refusal while an object joined: its place was being made
   pub stops_place : (end : ℕ) (old new : K) (waiting : List Object) (o : Object) (why : KeepFault)
       → (FindsPlace waiting o → ⊥) → StopsIn made rid caller end old new (put rid waiting caller ∷ []) why

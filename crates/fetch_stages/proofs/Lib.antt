@@ -12,7 +12,7 @@ pub mod Joining
 pub mod Naming
 pub mod Next
 pub mod OneCut
-pub mod OneRefusal
+pub mod OneVerdicts
 pub mod Parts
 pub mod Passing
 pub mod Reading

@@ -78,7 +78,7 @@ none_held which bytes parts units held rest reads over =
     subst (λ (r : Reading SectionUnits Part Break). OverHolds r.place) reads (over_holds bytes (first_unit which) [] (λ x. refl)) over
 
 -- a section of a bundle is put
-pub puts_next : {K : Type 0} (made : K → List Item → Type 0) (held : K → Rid → Held) (rid : Rid) (caller : ℕ) (a b : K)
+pub puts_next : {K O : Type 0} (made : K → O → List Item → Type 0) (held : K → Rid → Held) (rid : Rid) (caller : ℕ) (a b : K)
     (which : Which) (limit : ℕ) (l l' l'' : Option (List ℕ)) (before filled after : List ℕ) (section : Section)
     → Fills l l' before filled → 0 < length filled → (BeginsRefusal filled → ⊥)
     → PutsSection made held rid caller a b which limit l' l'' filled after section
@@ -163,7 +163,7 @@ tried_at constants rid which begins bytes parts (Broken broken) puts waiting rea
     )
 
 -- a refusal among the first puts
-stops_among_puts : {K : Type 0} (made : K → List Item → Type 0) (rid : Rid) (caller end : ℕ) (a b : K) (xs ys : List (List Object))
+stops_among_puts : {K O : Type 0} (made : K → O → List Item → Type 0) (rid : Rid) (caller end : ℕ) (a b : K) (xs ys : List (List Object))
     (why : KeepFault) → StopsIn made rid caller end a b (puts_of rid caller xs) why
     → StopsIn made rid caller end a b (puts_of rid caller (xs ++ ys)) why
 stops_among_puts made rid caller end a b xs ys why s =
@@ -171,7 +171,7 @@ stops_among_puts made rid caller end a b xs ys why s =
     (sym (map-append (λ (batch : List Object). put rid batch caller) xs ys))
     (stops_among made rid caller end a b (puts_of rid caller xs) (puts_of rid caller ys) why s)
 
-module _ {K : Type 0} (made : K → List Item → Type 0) (held : K → Rid → Held) (constants : Constants) (rid : Rid) (end : ℕ)
+module _ {K O : Type 0} (made : K → O → List Item → Type 0) (held : K → Rid → Held) (constants : Constants) (rid : Rid) (end : ℕ)
     (a b : K) (which : Which) (place limit : ℕ) (l l' l'' : Option (List ℕ)) (before filled after : List ℕ) (at_end : Type 0)
     (f : Fills l l' before filled) (some : 0 < length filled) (bars : BeginsRefusal filled → ⊥) where
   -- the section stops by its bytes
@@ -345,7 +345,7 @@ module _ {K : Type 0} (made : K → List Item → Type 0) (held : K → Rid → 
     | inr x ↦ stops_last why t t.puts.0 x.0 x.1 t.puts.2
   ]
 
-module _ {K : Type 0} (made : K → List Item → Type 0) (held : K → Rid → Held) (constants : Constants) (rid : Rid) (end : ℕ)
+module _ {K O : Type 0} (made : K → O → List Item → Type 0) (held : K → Rid → Held) (constants : Constants) (rid : Rid) (end : ℕ)
     (a b : K) (which : Which) (place limit : ℕ) (l l' l'' l''' : Option (List ℕ)) (before filled after final : List ℕ)
     (at_end : Type 0) (f : Fills l l' before filled) (some : 0 < length filled) (bars : BeginsRefusal filled → ⊥) where
   -- the job stops
@@ -472,7 +472,7 @@ fills_used l l' before filled f =
     record { taken = f.bytes; consumed = f.consumed; text = sym f.waits ∙ sym (append-nil filled) }
 
 -- no section begins
-pub stops_at_start : {K : Type 0} (made : K → List Item → Type 0) (constants : Constants) (rid : Rid) (end : ℕ) (k : K)
+pub stops_at_start : {K O : Type 0} (made : K → O → List Item → Type 0) (constants : Constants) (rid : Rid) (end : ℕ) (k : K)
     (which : Which) (place limit : ℕ) (l l' : Option (List ℕ)) (before filled : List ℕ) (input : Type 0) (why : BundleStop)
     → place ≤ 1073741824 → Fills l l' before filled → IsNoSection input (IsAtEnd l') place limit filled why
     → StopsNext made (setting_of constants rid) end k k which place limit l l' before why

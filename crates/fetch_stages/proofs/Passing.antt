@@ -40,7 +40,7 @@ told_put (Some a) (Some b) None xs f g = absurd g
 told_put (Some a) (Some b) (Some c) xs f g = λ oid. ap (λ (o : Option Object). option_or o (objects_in xs oid)) (f oid) ∙ g oid
 
 -- The first sections of a job are put, which have so many bytes, and these sections follow.
-pub record HasPassed {K : Type 0} (made : K → List Item → Type 0) (held : K → Rid → Held) (constants : Constants) (rid : Rid)
+pub record HasPassed {K O : Type 0} (made : K → O → List Item → Type 0) (held : K → Rid → Held) (constants : Constants) (rid : Rid)
     (start : Held) (a b : K) (offer : Offer) (more : List Which) (place : ℕ) (l l' : Option (List ℕ)) (before after : List ℕ) : Type 0 where
   pub bytes : List ℕ
   pub uses : Uses l l' before bytes after
@@ -56,7 +56,7 @@ pub record HasPassed {K : Type 0} (made : K → List Item → Type 0) (held : K 
       → Runs (setting_of constants rid) offer all_sections start 0 (take (2 ^ 30) (bytes ++ rest)) (entries ++ later) found
 
 -- no section yet
-pub passed_none : {K : Type 0} (made : K → List Item → Type 0) (held : K → Rid → Held) (constants : Constants) (rid : Rid) (k : K)
+pub passed_none : {K O : Type 0} (made : K → O → List Item → Type 0) (held : K → Rid → Held) (constants : Constants) (rid : Rid) (k : K)
     (offer : Offer) (l : Option (List ℕ)) (before : List ℕ)
     → HasPassed made held constants rid (held k rid) k k offer all_sections 0 l l before before
 passed_none made held constants rid k offer l before = record {
@@ -105,7 +105,7 @@ runs_behind constants rid offer which more old place limit bytes rest head objec
       refl,
     ))
 
-module _ {K : Type 0} (made : K → List Item → Type 0) (held : K → Rid → Held) (constants : Constants) (rid : Rid)
+module _ {K O : Type 0} (made : K → O → List Item → Type 0) (held : K → Rid → Held) (constants : Constants) (rid : Rid)
     (start : Held) (a b c : K) (offer : Offer) (which : Which) (more : List Which) (place : ℕ) (l l' l'' : Option (List ℕ))
     (before between after : List ℕ) (p : HasPassed made held constants rid start a b offer (which ∷ more) place l l' before between) where
   -- one section more
@@ -174,7 +174,7 @@ limited_few count begins found e few =
 pub limited_many : (count begins : ℕ) → 2 ^ 30 < count → limited count (EndsIn begins) ≡ TooLong
 limited_many count begins many = ap (λ (t : Bool). if t then TooLong else EndsIn begins) (lt-ltb (2 ^ 30) count many)
 
-module _ {K : Type 0} (made : K → List Item → Type 0) (held : K → Rid → Held) (constants : Constants) (rid : Rid)
+module _ {K O : Type 0} (made : K → O → List Item → Type 0) (held : K → Rid → Held) (constants : Constants) (rid : Rid)
     (start : Held) (end : ℕ) (a b c : K) (which : Which) (more : List Which) (place : ℕ) (l l' l'' : Option (List ℕ))
     (before between : List ℕ) (IsOffered : Offer → Type 0)
     (passed : (offer : Offer) → IsOffered offer → HasPassed made held constants rid start a b offer (which ∷ more) place l l' before between) where
@@ -296,7 +296,7 @@ module _ {K : Type 0} (made : K → List Item → Type 0) (held : K → Rid → 
       → StopsJob made (setting_of constants rid) start end a c l l'' before why
   stops_job = stops_by
 
-module _ {K : Type 0} (made : K → List Item → Type 0) (held : K → Rid → Held) (constants now : Constants) (rid : Rid)
+module _ {K O : Type 0} (made : K → O → List Item → Type 0) (held : K → Rid → Held) (constants now : Constants) (rid : Rid)
     (start : Held) (a b c : K) (offer : Offer) (which : Which) (more : List Which) (place : ℕ) (l l' l'' : Option (List ℕ))
     (before between : List ℕ) (p : HasPassed made held constants rid start a b offer (which ∷ more) place l l' before between)
     (fits : (head : Part) → IsHead which head → head ≡ head_with offer which) (same : now ≡ constants) where
@@ -325,7 +325,7 @@ head_or other None = other
 head_or other (Some head) = head
 
 -- the identity section is put
-pub passed_identity : {K : Type 0} (made : K → List Item → Type 0) (held : K → Rid → Held) (constants : Constants) (rid : Rid)
+pub passed_identity : {K O : Type 0} (made : K → O → List Item → Type 0) (held : K → Rid → Held) (constants : Constants) (rid : Rid)
     (a b : K) (offer : Offer) (l l' : Option (List ℕ)) (before after : List ℕ) (section : Section)
     → PutsNext made held rid constants.caller a b Identity (2 ^ 30) l l' before after section
     → section.head ≡ Some (head_with offer Identity)
@@ -342,7 +342,7 @@ judged_stop constants rid offer on place count bytes last found (inl j) = j.reac
 judged_stop constants rid offer on place count bytes last found (inr e) = e.1 ∙ ap (λ (x : JobStop). limited count x) (sym e.1)
 
 -- all sections are put
-pub puts_job : {K : Type 0} (made : K → List Item → Type 0) (held : K → Rid → Held) (constants : Constants) (rid : Rid)
+pub puts_job : {K O : Type 0} (made : K → O → List Item → Type 0) (held : K → Rid → Held) (constants : Constants) (rid : Rid)
     (start : Held) (a b : K) (offer : Offer) (place : ℕ) (l l' : Option (List ℕ)) (before after : List ℕ)
     → HasPassed made held constants rid start a b offer [] place l l' before after
     → PutsJob made held (setting_of constants rid) start a b offer place l l' before after

@@ -35,7 +35,7 @@ use Rattle.fetch_stages.proofs.Parts.{heads_behind}
 use Rattle.fetch_stages.proofs.Windows.{uses_filled, uses_more, uses_none}
 
 -- of a section of at most so many bytes these are used, and its objects joined
-pub record HasUsed {K : Type 0} (made : K → List Item → Type 0) (held : K → Rid → Held) (rid : Rid)
+pub record HasUsed {K O : Type 0} (made : K → O → List Item → Type 0) (held : K → Rid → Held) (rid : Rid)
     (caller : ℕ) (old new : K) (which : Which) (limit left : ℕ) (bytes bytes' : Option (List ℕ))
     (before after : List ℕ) (reader : SectionReader) (taken : Taken) : Type 0 where
   pub used : List ℕ
@@ -57,7 +57,7 @@ new_goes_on w reader h =
     ap (λ (r : Reading SectionUnits Part Break). is_over (units_at (first_unit w) r.place)) (sym (reads_so_far w [] [] reader h))
 
 -- nothing is used
-pub used_none : {K : Type 0} (made : K → List Item → Type 0) (held : K → Rid → Held) (rid : Rid) (caller : ℕ) (k : K)
+pub used_none : {K O : Type 0} (made : K → O → List Item → Type 0) (held : K → Rid → Held) (rid : Rid) (caller : ℕ) (k : K)
     (which : Which) (limit : ℕ) (bytes : Option (List ℕ)) (before : List ℕ) (reader : SectionReader) (taken : Taken)
     → HasRead which [] [] reader → taken.head ≡ None → taken.batcher ≡ []
     → HasUsed made held rid caller k k which limit limit bytes bytes before before reader taken
@@ -73,7 +73,7 @@ used_none made held rid caller k which limit bytes before reader taken read head
 }
 
 -- objects that came are put but for those that wait
-puts_some : {K : Type 0} {made : K → List Item → Type 0} {held : K → Rid → Held} {rid : Rid} {caller : ℕ} {a b : K}
+puts_some : {K O : Type 0} {made : K → O → List Item → Type 0} {held : K → Rid → Held} {rid : Rid} {caller : ℕ} {a b : K}
     (objects waiting : List Object) → Joins made held rid caller a b [] objects waiting
     → PutsSome made held rid caller a b objects waiting
 puts_some objects waiting f =
@@ -102,7 +102,7 @@ pub piece_is : (rest after : List ℕ) (most left : ℕ) → rest ≡ after → 
 piece_is rest after most left e f =
     ap (λ (n : ℕ). take n rest) f ∙ front_within left rest ∙ ap (λ (l : List ℕ). take left l) e
 
-module _ {K : Type 0} {made : K → List Item → Type 0} {held : K → Rid → Held} {rid : Rid} {caller : ℕ} {a b : K}
+module _ {K O : Type 0} {made : K → O → List Item → Type 0} {held : K → Rid → Held} {rid : Rid} {caller : ℕ} {a b : K}
     {which : Which} {limit left : ℕ} {l l' : Option (List ℕ)} {before after : List ℕ} {reader : SectionReader} {taken : Taken}
     (s : HasUsed made held rid caller a b which limit left l l' before after reader taken) where
   -- what waits is more

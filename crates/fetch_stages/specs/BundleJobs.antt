@@ -42,7 +42,7 @@ ReadsName left left' before after (Err why) =
     (used : List ℕ) × Uses left left' before used after × (length used < 20)
 
 -- a section of a bundle of at most so many bytes is read and its objects are put
-pub record PutsNext {K : Type 0} (made : K → List Item → Type 0) (held : K → Rid → Held)
+pub record PutsNext {K O : Type 0} (made : K → O → List Item → Type 0) (held : K → Rid → Held)
     (rid : Rid) (caller : ℕ) (old new : K) (which : Which) (limit : ℕ)
     (left left' : Option (List ℕ)) (before after : List ℕ) (section : Section) : Type 0 where
   pub bytes : List ℕ
@@ -70,7 +70,7 @@ IsBadAt place count limit at_end found =
     ((found ≡ EndsIn place) × (count ≤ limit) × at_end) ⊎ ((shown : ℕ) × (found ≡ Breaks place shown))
 
 -- Why a section of a bundle stops that begins at a place, of which these bytes were read and these not.
-abbrev pub StopsNextBy : {K : Type 0} → (K → List Item → Type 0) → Setting → ℕ → K → K → Which → ℕ
+abbrev pub StopsNextBy : {K O : Type 0} → (K → O → List Item → Type 0) → Setting → ℕ → K → K → Which → ℕ
     → ℕ → Type 0 → List ℕ → List ℕ → BundleStop → Type 0
 StopsNextBy made s end old new which place limit at_end bytes unread stop.ReadFault =
     (entries : List Item) × (begins : ℕ)
@@ -90,7 +90,7 @@ StopsNextBy made s end old new which place limit at_end bytes unread (stop.Keep 
     × StopsIn made s.rid s.constants.caller end old new entries why
 
 -- a section of a bundle stops that begins at a place
-pub record StopsNext {K : Type 0} (made : K → List Item → Type 0) (s : Setting) (end : ℕ) (old new : K) (which : Which)
+pub record StopsNext {K O : Type 0} (made : K → O → List Item → Type 0) (s : Setting) (end : ℕ) (old new : K) (which : Which)
     (place limit : ℕ) (left left' : Option (List ℕ)) (before : List ℕ) (why : BundleStop) : Type 0 where
   pub bytes : List ℕ
   pub unread : List ℕ
@@ -105,7 +105,7 @@ HasStopCause input before now objects stop.TooLong = Unit {0}
 HasStopCause input before now objects (stop.Keep why) = IsKeepCause objects before now why × IsNoChange why
 
 -- what the stop of a job is, and what was made of its entries
-abbrev pub StopsJobBy : {K : Type 0} → (K → List Item → Type 0) → Setting → ℕ → K → K → Type 0 → List ℕ → List ℕ → List Item
+abbrev pub StopsJobBy : {K O : Type 0} → (K → O → List Item → Type 0) → Setting → ℕ → K → K → Type 0 → List ℕ → List ℕ → List Item
     → JobStop → BundleStop → Type 0
 StopsJobBy made s end old new at_end bytes unread entries found stop.ReadFault = Makes made old new entries
 StopsJobBy made s end old new at_end bytes unread entries found (stop.Bad place) =
@@ -116,7 +116,7 @@ StopsJobBy made s end old new at_end bytes unread entries found (stop.Keep why) 
     StopsIn made s.rid s.constants.caller end old new entries why
 
 -- the sections of a job are not all put
-pub record StopsJob {K : Type 0} (made : K → List Item → Type 0) (s : Setting) (start : Held) (end : ℕ) (old new : K)
+pub record StopsJob {K O : Type 0} (made : K → O → List Item → Type 0) (s : Setting) (start : Held) (end : ℕ) (old new : K)
     (left left' : Option (List ℕ)) (before : List ℕ) (why : BundleStop) : Type 0 where
   pub bytes : List ℕ
   pub unread : List ℕ
@@ -127,7 +127,7 @@ pub record StopsJob {K : Type 0} (made : K → List Item → Type 0) (s : Settin
   pub ends : StopsJobBy made s end old new (IsAtEnd left') bytes unread entries found why
 
 -- the sections of a job are put, which have so many bytes, and what is offered is judged next
-pub record PutsJob {K : Type 0} (made : K → List Item → Type 0) (held : K → Rid → Held) (s : Setting) (start : Held)
+pub record PutsJob {K O : Type 0} (made : K → O → List Item → Type 0) (held : K → Rid → Held) (s : Setting) (start : Held)
     (old new : K) (offer : Offer) (place : ℕ) (left left' : Option (List ℕ)) (before after : List ℕ) : Type 0 where
   pub bytes : List ℕ
   pub uses : Uses left left' before bytes after
@@ -142,21 +142,21 @@ pub record PutsJob {K : Type 0} (made : K → List Item → Type 0) (held : K �
       → IsJob s start (bytes ++ rest) (entries ++ last) found
 
 -- judging an offer on what is held, behind so many bytes of sections, is refused
-abbrev pub StopsJudging : {K : Type 0} → (K → List Item → Type 0) → Setting → ℕ → K → K → Held → Offer → ℕ → KeepFault
+abbrev pub StopsJudging : {K O : Type 0} → (K → O → List Item → Type 0) → Setting → ℕ → K → K → Held → Offer → ℕ → KeepFault
     → Type 0
 StopsJudging made s end old new on offer place why =
     (entries : List Item) × (found : JobStop) × Runs s offer [] on place [] entries found
     × StopsIn made s.rid s.constants.caller end old new entries why
 
 -- an offer is judged on what is held, and the verdict is entered
-pub record Enters {K : Type 0} (made : K → List Item → Type 0) (s : Setting) (old new : K) (on : Held) (offer : Offer)
+pub record Enters {K O : Type 0} (made : K → O → List Item → Type 0) (s : Setting) (old new : K) (on : Held) (offer : Offer)
     (verdict : Result Judged Whole) : Type 0 where
   pub is : IsVerdictOn s.constants on offer s.scope verdict
   pub made_is : Makes made old new (item_of s.rid s.constants.caller verdict ∷ [])
 
 -- How the job of a bundle ends whose offer is judged on what is held, behind so many bytes of sections;
 -- with what is held then, and the bytes that follow.
-abbrev pub FinishesBy : {K : Type 0} → (K → List Item → Type 0) → Setting → ℕ → K → K → Held → Offer → ℕ → Held
+abbrev pub FinishesBy : {K O : Type 0} → (K → O → List Item → Type 0) → Setting → ℕ → K → K → Held → Offer → ℕ → Held
     → List ℕ → Type 0 → ImportEnd → Type 0
 FinishesBy made s end old new on offer place finally rest at_end (import.Ended rid (job.Done judged head)) =
     (rid ≡ s.rid) × Enters made s old new on offer (Ok judged) × (rest ≡ []) × at_end
@@ -220,7 +220,7 @@ IsStopAt input at_end place rest stops.NoMemory why = why ≡ stop.Keep fault.No
 IsStopAt input at_end place rest (stops.Keep refused) why = why ≡ stop.Keep refused
 
 -- what the end of a job is that was installed: the head of what is held, or why none was told
-abbrev pub EndsDone : {K : Type 0} → (K → List Item → Type 0) → (K → Constants) → (K → ℕ) → (K → Rid → Held) → Rid
+abbrev pub EndsDone : {K O : Type 0} → (K → O → List Item → Type 0) → (K → Constants) → (K → ℕ) → (K → Rid → Held) → Rid
     → Judged → K → K → JobEnd → Type 0
 EndsDone made constants end held rid judged old new (job.Done same head) =
     (same ≡ judged) × Makes made old new [] × IsHeadOn (constants old) (held new rid) head

@@ -70,7 +70,7 @@ IsHeadOn constants held head =
 -- its bytes or the input failed; those before the call that was refused; none, where memory was refused
 -- before the repository was known. Once the bundle has ended and is judged, what is held then is what
 -- the verdict leaves of what was judged.
-abbrev pub EndsBy : {K : Type 0} → (K → List Item → Type 0) → Constants → ℕ → K → K → (Rid → Held) → Type 0
+abbrev pub EndsBy : {K O : Type 0} → (K → O → List Item → Type 0) → Constants → ℕ → K → K → (Rid → Held) → Type 0
     → List Item → Came → ImportEnd → Type 0
 EndsBy made constants end old new held at_end entries came (import.Ended rid (job.Done judged head)) =
     (on : Held) × (came ≡ Verdict rid on (Ok judged)) × at_end × Makes made old new entries
@@ -119,7 +119,7 @@ KeepsUnnamed bytes old new = (other : Rid) → (IsNamedBy bytes other → ⊥) �
 
 -- Bytes were taken from the input, and a front of them was read: all of them, where the job stopped by
 -- its bytes. The job of what was read has these entries, of which those that the end says were made.
-pub record Imports {K : Type 0} (made : K → List Item → Type 0) (constants : Constants) (end : ℕ) (held finally : Rid → Held)
+pub record Imports {K O : Type 0} (made : K → O → List Item → Type 0) (constants : Constants) (end : ℕ) (held finally : Rid → Held)
     (old new : K) (before after : Option (List ℕ)) (result : ImportEnd) : Type 0 where
   pub taken : List ℕ
   pub consumed : Consumes before after taken

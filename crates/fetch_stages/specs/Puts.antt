@@ -23,21 +23,21 @@ MakesPlace waiting object puts next =
     ⊎ ((puts ≡ waiting ∷ []) × (next ≡ []) × (FindsPlace waiting object → ⊥))
 
 -- batches are put: each has its entry, and their objects are held behind those from before
-pub record PutsBatches {K : Type 0} (made : K → List Item → Type 0) (held : K → Rid → Held)
+pub record PutsBatches {K O : Type 0} (made : K → O → List Item → Type 0) (held : K → Rid → Held)
     (rid : Rid) (caller : ℕ) (old new : K) (batches : List (List Object)) : Type 0 where
   pub entered : Makes made old new (puts_of rid caller batches)
   pub slice : HasSlice (held old rid).state (put_told (held old rid).objects (all_in batches))
       (held new rid)
 
 -- place is made for an object, and those are put that make it
-abbrev pub PutsForPlace : {K : Type 0} → (K → List Item → Type 0) → (K → Rid → Held) → Rid → ℕ → K → K
+abbrev pub PutsForPlace : {K O : Type 0} → (K → O → List Item → Type 0) → (K → Rid → Held) → Rid → ℕ → K → K
     → List Object → Object → List Object → Type 0
 PutsForPlace made held rid caller old new waiting object next = (puts : List (List Object))
     × MakesPlace waiting object puts next × PutsBatches made held rid caller old new puts
 
 -- objects joined the waiting ones: some batches more of those from before and these are put, and
 -- others wait
-abbrev pub Joins : {K : Type 0} → (K → List Item → Type 0) → (K → Rid → Held) → Rid → ℕ → K → K
+abbrev pub Joins : {K O : Type 0} → (K → O → List Item → Type 0) → (K → Rid → Held) → Rid → ℕ → K → K
     → List Object → List Object → List Object → Type 0
 Joins made held rid caller old new waiting objects next =
     (before : List Object) (puts : List (List Object)) → IsOpenCut before puts waiting
@@ -45,7 +45,7 @@ Joins made held rid caller old new waiting objects next =
     × PutsBatches made held rid caller old new more
 
 -- a call was refused while the first of these objects joined
-abbrev pub StopsJoining : {K : Type 0} → (K → List Item → Type 0) → Rid → ℕ → ℕ → K → K
+abbrev pub StopsJoining : {K O : Type 0} → (K → O → List Item → Type 0) → Rid → ℕ → ℕ → K → K
     → List Object → List Object → KeepFault → Type 0
 StopsJoining made rid caller end old new waiting objects why =
     (before : List Object) (puts : List (List Object)) → IsOpenCut before puts waiting
@@ -55,7 +55,7 @@ StopsJoining made rid caller end old new waiting objects why =
     × StopsIn made rid caller end old new (puts_of rid caller more) why
 
 -- all objects are put
-abbrev pub PutsAll : {K : Type 0} → (K → List Item → Type 0) → (K → Rid → Held) → Rid → ℕ → K → K
+abbrev pub PutsAll : {K O : Type 0} → (K → O → List Item → Type 0) → (K → Rid → Held) → Rid → ℕ → K → K
     → List Object → Type 0
 PutsAll made held rid caller old new waiting =
     (before : List Object) (puts : List (List Object)) → IsOpenCut before puts waiting
@@ -63,7 +63,7 @@ PutsAll made held rid caller old new waiting =
     × PutsBatches made held rid caller old new more
 
 -- a call was refused while all objects were put
-abbrev pub StopsPutting : {K : Type 0} → (K → List Item → Type 0) → Rid → ℕ → ℕ → K → K
+abbrev pub StopsPutting : {K O : Type 0} → (K → O → List Item → Type 0) → Rid → ℕ → ℕ → K → K
     → List Object → KeepFault → Type 0
 StopsPutting made rid caller end old new waiting why =
     (before : List Object) (puts : List (List Object)) → IsOpenCut before puts waiting

@@ -79,14 +79,14 @@ GivesParts which bytes parts = (place : Place SectionUnits Break)
     × (read_of which bytes ≡ record { items = parts; place = place }) × LeavesNone place
 
 -- the objects are put in their batches
-pub record PutsAllOf {K : Type 0} (made : K → List Item → Type 0) (held : K → Rid → Held)
+pub record PutsAllOf {K O : Type 0} (made : K → O → List Item → Type 0) (held : K → Rid → Held)
     (rid : Rid) (caller : ℕ) (old new : K) (objects : List Object) : Type 0 where
   pub batches : List (List Object)
   pub cut : IsCut objects batches
   pub puts : PutsBatches made held rid caller old new batches
 
 -- the objects are put but for the batch that more may join
-pub record PutsSome {K : Type 0} (made : K → List Item → Type 0) (held : K → Rid → Held)
+pub record PutsSome {K O : Type 0} (made : K → O → List Item → Type 0) (held : K → Rid → Held)
     (rid : Rid) (caller : ℕ) (old new : K) (objects waiting : List Object) : Type 0 where
   pub batches : List (List Object)
   pub cut : IsOpenCut objects batches waiting
@@ -111,7 +111,7 @@ HasKeepCause objects before now stop.NoMemory = Unit {0}
 -- What a piece came to, fed to a reader that has read these bytes: bytes of it are used, and its
 -- parts taken; or those before a broken unit; or of the parts so far the first, and a call of the
 -- keep was refused.
-abbrev pub PutsPiece : {K : Type 0} → (K → List Item → Type 0) → (K → Rid → Held) → Rid → ℕ → ℕ
+abbrev pub PutsPiece : {K O : Type 0} → (K → O → List Item → Type 0) → (K → Rid → Held) → Rid → ℕ → ℕ
     → K → K → Which → List ℕ → List Part → List ℕ → Taken → Taken → SectionReader
     → Result Used SectionStop → Type 0
 PutsPiece made held rid caller end old new which fed parts piece before after reader (Ok used) =
@@ -140,7 +140,7 @@ PutsPiece made held rid caller end old new which fed parts piece before after re
     (Err (stop.TooLong place)) = ⊥
 
 -- what a piece comes to, whatever the reader that it is fed to has read
-abbrev pub FeedsPiece : {K : Type 0} → (K → List Item → Type 0) → (K → Rid → Held) → Rid → ℕ → ℕ
+abbrev pub FeedsPiece : {K O : Type 0} → (K → O → List Item → Type 0) → (K → Rid → Held) → Rid → ℕ → ℕ
     → K → K → List ℕ → Taken → Taken → SectionReader → SectionReader → Result Used SectionStop
     → Type 0
 FeedsPiece made held rid caller end old new piece before after reader reader' result =
@@ -175,7 +175,7 @@ AreTried ended objects batches =
 
 -- what was made of objects where a section stops: they are put but for the batch that more may
 -- join; or at a put of these batches a call was refused
-abbrev pub PutsUpTo : {K : Type 0} → (K → List Item → Type 0) → (K → Rid → Held) → Rid → ℕ → ℕ
+abbrev pub PutsUpTo : {K O : Type 0} → (K → O → List Item → Type 0) → (K → Rid → Held) → Rid → ℕ → ℕ
     → K → K → Type 0 → List Object → SectionStop → Type 0
 PutsUpTo made held rid caller end old new ended objects (stop.Keep why) =
     (batches : List (List Object)) × AreTried ended objects batches
@@ -184,7 +184,7 @@ PutsUpTo made held rid caller end old new ended objects other =
     (waiting : List Object) × PutsSome made held rid caller old new objects waiting
 
 -- a section of at most so many bytes is read and its objects are put
-pub record PutsSection {K : Type 0} (made : K → List Item → Type 0) (held : K → Rid → Held)
+pub record PutsSection {K O : Type 0} (made : K → O → List Item → Type 0) (held : K → Rid → Held)
     (rid : Rid) (caller : ℕ) (old new : K) (which : Which) (limit : ℕ)
     (left left' : Option (List ℕ)) (before after : List ℕ) (section : Section) : Type 0 where
   pub bytes : List ℕ
@@ -198,7 +198,7 @@ pub record PutsSection {K : Type 0} (made : K → List Item → Type 0) (held : 
   pub count : section.used ≡ length bytes
 
 -- a section of at most so many bytes is not put, and what was made of its objects
-pub record StopsSection {K : Type 0} (made : K → List Item → Type 0) (held : K → Rid → Held)
+pub record StopsSection {K O : Type 0} (made : K → O → List Item → Type 0) (held : K → Rid → Held)
     (rid : Rid) (caller end : ℕ) (old new : K) (which : Which) (limit : ℕ)
     (left left' : Option (List ℕ)) (before after : List ℕ) (at_end : Type 0) (why : SectionStop) : Type 0 where
   pub used : List ℕ
@@ -211,7 +211,7 @@ pub record StopsSection {K : Type 0} (made : K → List Item → Type 0) (held :
       (objects_among parts) why
 
 -- a section is not put, by a keep of these constants and these ends
-abbrev pub StopsReading : {K : Type 0} → (K → List Item → Type 0) → (K → Rid → Held)
+abbrev pub StopsReading : {K O : Type 0} → (K → O → List Item → Type 0) → (K → Rid → Held)
     → (K → Constants) → (K → ℕ) → Rid → K → K → Which → ℕ → Option (List ℕ) → Option (List ℕ)
     → List ℕ → List ℕ → SectionStop → Type 0
 StopsReading made held constants end rid old new which limit left left' before after why =

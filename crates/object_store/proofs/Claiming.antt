@@ -23,7 +23,7 @@ use Rattle.object_store.specs.declared.faults.ClaimFault.TheVariants as faults
 use Rattle.object_store.specs.declared.repository.Repository.{Repository}
 use Rattle.object_store.specs.declared.store.Store.{Store}
 use Rattle.object_store.proofs.Keys.{is_itself, replay_claim, same_or_other}
-use Rattle.object_store.proofs.Moving.{stands_more}
+use Rattle.object_store.proofs.Moving.{stands_more, still}
 use Rattle.object_store.proofs.Standing.{claimant_told, each_grown}
 
 -- a claim has a caller
@@ -86,11 +86,11 @@ stands_claimed None None rid items caller real none c h = absurd c
 stands_claimed (Some a) None rid items caller real none c h = absurd c
 
 -- a claim that is Ok
-pub claim_ok : {D : Type 0} (reads : D → Option (List ℕ)) (images : D → List ℕ → Type 0) (old new : Store D) (core : Core) (rid : Rid) (caller : ℕ) → 1 ≤ caller → StandsFor old core.items
+pub claim_ok : {D : Type 0} (reads : D → Option (List ℕ)) (images : D → List ℕ → Type 0) (moment : D → ℕ) (since : D → ℕ → List ℕ → Type 0) (now : (disk : D) (image : List ℕ) → since disk (moment disk) image → images disk image) (old new : Store D) (core : Core) (rid : Rid) (caller : ℕ) → 1 ≤ caller → StandsFor old core.items
     → new.keyring ≡ old.keyring → new.journal ≡ old.journal → new.history.entries.items ≡ old.history.entries.items ++ Claim rid caller ∷ []
     → ((q : Rid) → (q ≡ rid → ⊥) → get rid_cmp new.repositories q ≡ get rid_cmp old.repositories q) → claimant_at (get rid_cmp old.repositories rid) ≡ 0
-    → IsClaimed rid caller (get rid_cmp old.repositories rid) (get rid_cmp new.repositories rid) → Moves reads images old new core (claims rid caller ∷ [])
-claim_ok reads images old new core rid caller some s k j e others unclaimed claimed =
+    → IsClaimed rid caller (get rid_cmp old.repositories rid) (get rid_cmp new.repositories rid) → Moves reads images moment since old new core (claims rid caller ∷ [])
+claim_ok reads images moment since now old new core rid caller some s k j e others unclaimed claimed =
     let items = core.items ++ claim rid caller ∷ [] in
     let none : claimant rid core.items ≡ 0 = sym (claimant_told (get rid_cmp old.repositories rid) rid core.items (s.each rid)) ∙ unclaimed in
     let lawful : Lawful old.keyring core.items (claim rid caller) = (some, none) in
@@ -105,6 +105,7 @@ claim_ok reads images old new core rid caller some s k j e others unclaimed clai
           (stands_claimed (get rid_cmp old.repositories rid) (get rid_cmp new.repositories rid) rid core.items caller real none claimed (s.each rid)));
       disk = λ h. subst (λ (l : List Item). Holds reads images new.journal (bodies_of l) (body_in_doubt core.doubt)) (sym (durable_claimed core.items rid caller))
           (subst (λ (x : Journal _). Holds reads images x (bodies_of (durable_part core.items)) (body_in_doubt core.doubt)) (sym j) h);
+      time = still reads images moment since now old new core s k (claims rid caller ∷ []) j;
     }
 
 -- nothing was claimed
@@ -118,8 +119,8 @@ each_still a b rid items h others same q = elim (same_or_other q rid) [
 ]
 
 -- a claim that is refused
-pub claim_refused : {D : Type 0} (reads : D → Option (List ℕ)) (images : D → List ℕ → Type 0) (old new : Store D) (core : Core) (rid : Rid) (caller : ℕ) (fault : ClaimFault) → StandsFor old core.items
-    → Moves reads images old new core [] → IsCauseOf (claimant_at (get rid_cmp old.repositories rid)) fault → IsClaiming reads images old new core rid caller (Err fault)
-claim_refused reads images old new core rid caller (faults.Claimed other) s m cause =
+pub claim_refused : {D : Type 0} (reads : D → Option (List ℕ)) (images : D → List ℕ → Type 0) (moment : D → ℕ) (since : D → ℕ → List ℕ → Type 0) (now : (disk : D) (image : List ℕ) → since disk (moment disk) image → images disk image) (old new : Store D) (core : Core) (rid : Rid) (caller : ℕ) (fault : ClaimFault) → StandsFor old core.items
+    → Moves reads images moment since old new core [] → IsCauseOf (claimant_at (get rid_cmp old.repositories rid)) fault → IsClaiming reads images moment since old new core rid caller (Err fault)
+claim_refused reads images moment since now old new core rid caller (faults.Claimed other) s m cause =
     (m, sym (claimant_told (get rid_cmp old.repositories rid) rid core.items (s.each rid)) ∙ cause.0, cause.1)
-claim_refused reads images old new core rid caller faults.NoMemory s m cause = m
+claim_refused reads images moment since now old new core rid caller faults.NoMemory s m cause = m

@@ -51,15 +51,15 @@ pub claims_equal : {D : Type 0} (old new : Store D) (rid : Rid) → ((q : Rid) �
 claims_equal old new rid others same = by_each old new rid others (ap claimant_at same)
 
 -- where an entry was written or not
-pub claims_written : {D : Type 0} (reads : D → Option (List ℕ)) (images : D → List ℕ → Type 0) (old new : Store D) (rid : Rid) (caller : ℕ) (entry : Entry) (body : List ℕ)
+pub claims_written : {D : Type 0} (reads : D → Option (List ℕ)) (images : D → List ℕ → Type 0) (moment : D → ℕ) (since : D → ℕ → List ℕ → Type 0) (old new : Store D) (rid : Rid) (caller : ℕ) (entry : Entry) (body : List ℕ)
     (result : Result (Unit {0}) KeepFault) → ((q : Rid) → (q ≡ rid → ⊥) → get rid_cmp new.repositories q ≡ get rid_cmp old.repositories q)
-    → OnOk result (HasWritten reads images old new rid entry body) → IfErr result (IsWriteFault reads images old new rid caller entry body) → KeepsClaims old new
-claims_written reads images old new rid caller entry body (Ok done) others w f =
+    → OnOk result (HasWritten reads images moment since old new rid entry body) → IfErr result (IsWriteFault reads images moment since old new rid caller entry body) → KeepsClaims old new
+claims_written reads images moment since old new rid caller entry body (Ok done) others w f =
     by_each old new rid others (admitted_claimant entry (get rid_cmp old.repositories rid) (get rid_cmp new.repositories rid) w.admitted)
-claims_written reads images old new rid caller entry body (Err DiskFault) others w f = claims_same old new rid others f.let_go.same
-claims_written reads images old new rid caller entry body (Err Full) others w f = claims_same old new rid others f.let_go.same
-claims_written reads images old new rid caller entry body (Err (Changed change)) others w f = absurd f
-claims_written reads images old new rid caller entry body (Err NoMemory) others w f = absurd f
+claims_written reads images moment since old new rid caller entry body (Err DiskFault) others w f = claims_same old new rid others f.let_go.same
+claims_written reads images moment since old new rid caller entry body (Err Full) others w f = claims_same old new rid others f.let_go.same
+claims_written reads images moment since old new rid caller entry body (Err (Changed change)) others w f = absurd f
+claims_written reads images moment since old new rid caller entry body (Err NoMemory) others w f = absurd f
 
 -- one call behind another
 pub claims_on : {D : Type 0} (a b c : Store D) → KeepsClaims a b → KeepsClaims b c → KeepsClaims a c

@@ -1,11 +1,9 @@
 -- What a store has of a repository, by the entries that it stands for.
-use Rattle.std.proofs.Common.{◌≡◌, List, Option, None, Some, refl, sym, ap}
+use Rattle.std.proofs.Common.{◌≡◌, List, Option, None, Some, sym, ap}
 use Rattle.std.specs.BTreeMap.{get}
 use Rattle.rad_base.specs.Order.{rid_cmp}
 use Rattle.rad_base.specs.declared.names.Rid.{Rid}
-use Rattle.commit_graph.specs.Objects.{ObjectMap}
 use Rattle.repo_entries.specs.Items.{Item}
-use Rattle.repo_slice.specs.declared.state.State.{State}
 use Rattle.legal_history.specs.Replays.{claimant}
 use Rattle.object_store.specs.Held.{claimant_of, held_at, held_in, held_of, held_standing}
 use Rattle.object_store.specs.Repositories.{StandsKnown}

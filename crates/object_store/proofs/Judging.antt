@@ -32,7 +32,7 @@ use Rattle.repo_slice.proofs.NextStates.{next_good}
 use Rattle.repo_slice.proofs.OfferedAgain.{allowed_again}
 use Rattle.repo_slice.proofs.Replacing.{replaced_replaces}
 use Rattle.entry_bodies.specs.Bodies.{install_size, install_text}
-use Rattle.legal_history.specs.Cores.{Core}
+use Rattle.legal_history.specs.Cores.{Core, refuses}
 use Rattle.legal_history.specs.Durable.{durable_part}
 use Rattle.legal_history.specs.Histories.{Lawful}
 use Rattle.legal_history.specs.Replays.{replay, replayed_state}
@@ -48,7 +48,7 @@ use Rattle.object_store.specs.declared.store.Store.{Store}
 use Rattle.object_store.proofs.Claiming.{each_still}
 use Rattle.object_store.proofs.Installing.{few_in, stands_few, stands_install}
 use Rattle.object_store.proofs.Keys.{claimant_stays, replay_install_other, replay_refused}
-use Rattle.object_store.proofs.Moving.{claimed_is, nothing_done, stands_more}
+use Rattle.object_store.proofs.Moving.{claimed_is, nothing_done, stands_more, still}
 use Rattle.object_store.proofs.Standing.{each_grown, named, stands_so}
 use Rattle.object_store.proofs.Taking.{verdict_is}
 use Rattle.object_store.proofs.Writing.{Prepares, not_wrote, there, wrote}
@@ -90,14 +90,14 @@ pub record Judges {D : Type 0} (old mid : Store D) (rid : Rid) (offer : Offer) (
   pub told : IsVerdictAt (get rid_cmp old.repositories rid) old.keyring offer scope verdict
 
 -- a judging that memory refused
-pub judged_nothing : {D : Type 0} (reads : D → Option (List ℕ)) (images : D → List ℕ → Type 0) (old mid : Store D) (core : Core) (rid : Rid) → StandsFor old core.items
+pub judged_nothing : {D : Type 0} (reads : D → Option (List ℕ)) (images : D → List ℕ → Type 0) (moment : D → ℕ) (since : D → ℕ → List ℕ → Type 0) (now : (disk : D) (image : List ℕ) → since disk (moment disk) image → images disk image) (old mid : Store D) (core : Core) (rid : Rid) → StandsFor old core.items
     → mid.keyring ≡ old.keyring → mid.history.entries.items ≡ old.history.entries.items → mid.journal ≡ old.journal
     → ((q : Rid) → (q ≡ rid → ⊥) → get rid_cmp mid.repositories q ≡ get rid_cmp old.repositories q) → get rid_cmp mid.repositories rid ≡ get rid_cmp old.repositories rid
-    → Moves reads images old mid core []
-judged_nothing reads images old mid core rid s k e j others same =
-    nothing_done reads images old mid core s k e j (each_still old.repositories mid.repositories rid core.items s.each others same)
+    → Moves reads images moment since old mid core []
+judged_nothing reads images moment since now old mid core rid s k e j others same =
+    nothing_done reads images moment since now old mid core s k e j (each_still old.repositories mid.repositories rid core.items s.each others same)
 
-module _ {D : Type 0} (reads : D → Option (List ℕ)) (images : D → List ℕ → Type 0) (old mid : Store D) (rid : Rid) (offer : Offer) (scope : Scope) (verdict : Result Judged Whole) (caller : ℕ)
+module _ {D : Type 0} (reads : D → Option (List ℕ)) (images : D → List ℕ → Type 0) (moment : D → ℕ) (since : D → ℕ → List ℕ → Type 0) (now : (disk : D) (image : List ℕ) → since disk (moment disk) image → images disk image) (old mid : Store D) (rid : Rid) (offer : Offer) (scope : Scope) (verdict : Result Judged Whole) (caller : ℕ)
     (c : HasClaimed old rid caller) (g : Judges old mid rid offer scope verdict) where
   -- the verdict on what the entries make of the repository
   pub told_on : (items : List Item) → StandsFor old items → IsVerdictBehind old.keyring items rid offer scope verdict
@@ -106,7 +106,7 @@ module _ {D : Type 0} (reads : D → Option (List ℕ)) (images : D → List ℕ
   -- a whole refusal
   pub judged_refused : (new : Store D) (core : Core) (why : Whole) → verdict ≡ Err why → StandsFor old core.items → new.journal ≡ mid.journal → new.keyring ≡ mid.keyring
       → new.repositories ≡ mid.repositories → new.history.entries.items ≡ mid.history.entries.items ++ Refused rid why caller ∷ []
-      → IsInstall reads images old new core rid offer scope caller (Ok (Err why))
+      → IsInstall reads images moment since old new core rid offer scope caller (Ok (Err why))
   judged_refused new core why v s j k r e =
       let item = refused rid why caller in
       let items = core.items ++ item ∷ [] in
@@ -122,10 +122,11 @@ module _ {D : Type 0} (reads : D → Option (List ℕ)) (images : D → List ℕ
               (each_still old.repositories mid.repositories rid core.items s.each g.others g.same q)));
           disk = λ h. subst (λ (l : List Item). Holds reads images new.journal (bodies_of l) (body_in_doubt core.doubt)) (sym (durable_refused core.items rid why caller))
               (subst (λ (x : Journal D). Holds reads images x (bodies_of (durable_part core.items)) (body_in_doubt core.doubt)) (sym (j ∙ g.journal)) h);
+          time = still reads images moment since now old new core s (k ∙ g.keyring) (refuses rid why caller ∷ []) (j ∙ g.journal);
         },
       )
 
-module _ {D : Type 0} (reads : D → Option (List ℕ)) (images : D → List ℕ → Type 0) (old mid : Store D) (rid : Rid) (offer : Offer) (scope : Scope) (judged : Judged) (caller : ℕ)
+module _ {D : Type 0} (reads : D → Option (List ℕ)) (images : D → List ℕ → Type 0) (moment : D → ℕ) (since : D → ℕ → List ℕ → Type 0) (now : (disk : D) (image : List ℕ) → since disk (moment disk) image → images disk image) (old mid : Store D) (rid : Rid) (offer : Offer) (scope : Scope) (judged : Judged) (caller : ℕ)
     (c : HasClaimed old rid caller) (g : Judges old mid rid offer scope (Ok judged)) (up : IsRising judged.advanced) where
   -- few remotes advance
   pub few_advance : StandsForSome old → length judged.advanced ≤ 1024
@@ -133,7 +134,7 @@ module _ {D : Type 0} (reads : D → Option (List ℕ)) (images : D → List ℕ
       let items = stands.0 in
       let good = legal_is_good old.keyring rid items stands.1.legal in
       advanced_few (replay rid items).objects old.keyring (replayed_state rid items) offer scope judged good.rising up good.good
-      (told_on reads images old mid rid offer scope (Ok judged) caller c g items stands.1)
+      (told_on reads images moment since now old mid rid offer scope (Ok judged) caller c g items stands.1)
 
   module _ (ready : Store D) (p : Prepares mid ready rid) where
     -- what is prepared is prepared from the start
@@ -160,7 +161,7 @@ module _ {D : Type 0} (reads : D → Option (List ℕ)) (images : D → List ℕ
           ∙ ap (λ (x : Rid). Install x judged.next_id judged.advanced caller) (named (get rid_cmp old.repositories rid) rid core.items (s.each rid))
 
       verdict : IsVerdictBehind old.keyring core.items rid offer scope (Ok judged)
-      verdict = told_on reads images old mid rid offer scope (Ok judged) caller c g core.items s
+      verdict = told_on reads images moment since now old mid rid offer scope (Ok judged) caller c g core.items s
 
       lawful : Lawful old.keyring core.items (install_of rid caller judged)
       lawful = (
@@ -178,21 +179,21 @@ module _ {D : Type 0} (reads : D → Option (List ℕ)) (images : D → List ℕ
           (subst (λ (x : Entry). IsAdmitted x (get rid_cmp ready.repositories rid) (get rid_cmp new.repositories rid)) entry_is admitted) (s.each rid))
 
       -- an install that was written
-      pub installed : HasWritten reads images ready new rid entry body → IsInstall reads images old new core rid offer scope caller (Ok (Ok judged))
+      pub installed : HasWritten reads images moment since ready new rid entry body → IsInstall reads images moment since old new core rid offer scope caller (Ok (Ok judged))
       installed w =
-          (verdict, wrote reads images old ready new core rid s prepares others k caller (install_of rid caller judged) tt lawful body entry b entry_is w (grown w.admitted))
+          (verdict, wrote reads images moment since now old ready new core rid s prepares others k caller (install_of rid caller judged) tt lawful body entry b entry_is w (grown w.admitted))
 
       -- an install that was not
       pub not_installed : (fault : KeepFault) → length body ≡ install_size judged.advanced → (fault ≡ keeps.Full → 2 ^ 40 < ready.journal.end + 10 + length body)
-          → IsWriteFault reads images ready new rid caller entry body fault
-          → IsInstall reads images old new core rid offer scope caller (Err fault)
-      not_installed keeps.DiskFault size full w = (judged, verdict, not_wrote reads images old ready new core rid s prepares others k caller (install_of rid caller judged) tt lawful body entry b entry_is keeps.DiskFault w)
+          → IsWriteFault reads images moment since ready new rid caller entry body fault
+          → IsInstall reads images moment since old new core rid offer scope caller (Err fault)
+      not_installed keeps.DiskFault size full w = (judged, verdict, not_wrote reads images moment since now old ready new core rid s prepares others k caller (install_of rid caller judged) tt lawful body entry b entry_is keeps.DiskFault w)
       not_installed keeps.Full size full w = (
         judged,
         verdict,
         subst (λ (n : ℕ). 2 ^ 40 < old.journal.end + 10 + n) size
             (subst (λ (x : Journal D). 2 ^ 40 < x.end + 10 + length body) prepares.journal (full refl)),
-        not_wrote reads images old ready new core rid s prepares others k caller (install_of rid caller judged) tt lawful body entry b entry_is keeps.Full w,
+        not_wrote reads images moment since now old ready new core rid s prepares others k caller (install_of rid caller judged) tt lawful body entry b entry_is keeps.Full w,
       )
       not_installed (keeps.Changed change) size full w = absurd w
       not_installed keeps.NoMemory size full w = absurd w

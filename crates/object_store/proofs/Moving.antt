@@ -1,11 +1,15 @@
 -- The events of a call that has an entry to write.
-use Rattle.std.proofs.Common.{◌≡◌, ◌⊎◌, ℕ, Bool, true, false, List, [], ◌∷◌, ◌++◌, map, Option, None, Some, inl, inr, refl, sym, ap, subst, ◌∙◌}
+use Rattle.std.proofs.Common.{◌≡◌, ◌⊎◌, ℕ, Bool, true, false, List, [], ◌∷◌, ◌++◌, map, Option, None, Some, Ok, Err, inl, inr, refl, sym, ap, subst, ◌∙◌}
 use Rattle.std.specs.BTreeMap.{get}
 use Rattle.std.proofs.lemmas.List.{append-nil, map-append}
 use Rattle.rad_base.specs.Order.{rid_cmp}
 use Rattle.rad_base.specs.declared.names.Rid.{Rid}
 use Rattle.keyring.specs.Contents.{Contents}
-use Rattle.ref_journal.specs.Holds.{Holds, LeavesDoubt}
+use Rattle.ref_journal.specs.Holds.{CrashLeaves, Holds, LeavesDoubt, LeavesOnlyBetween, MendedMayHave}
+use Rattle.ref_journal.specs.Images.{IsLeft}
+use Rattle.ref_journal.specs.Moments.{HasBodies, MayHave}
+use Rattle.ref_journal.proofs.Entering.{left_has}
+use Rattle.ref_journal.proofs.Lasting.{leaves_more, leaves_none}
 use Rattle.ref_journal.specs.declared.faults.AppendFault.TheVariants as faults
 use Rattle.ref_journal.specs.declared.journal.Journal.{Journal}
 use Rattle.repo_entries.specs.Items.{Item, claim, entry_of, install, left_of, missed, put, refused}
@@ -15,7 +19,7 @@ use Rattle.repo_entries.specs.declared.entry.Left.{Left}
 use Rattle.repo_entries.specs.declared.entry.Left.TheVariants as lefts
 use Rattle.repo_slice.specs.declared.keep_fault.KeepFault.TheVariants.{DiskFault}
 use Rattle.entry_bodies.specs.Bodies.{body_of}
-use Rattle.legal_history.specs.Cores.{Core, doubts, enters, mends, misses}
+use Rattle.legal_history.specs.Cores.{Core, Event, Runs, doubts, enters, mends, misses}
 use Rattle.legal_history.specs.Durable.{IsDurable, durable_part, reopened}
 use Rattle.legal_history.specs.Histories.{Lawful, Legal}
 use Rattle.legal_history.specs.Replays.{claimant}
@@ -23,7 +27,7 @@ use Rattle.legal_history.proofs.Durables.{durable-append, durable_more, legal_mo
 use Rattle.object_store.specs.Bodies.{bodies_of, body_in_doubt}
 use Rattle.object_store.specs.Entries.{left_by, missed_entry}
 use Rattle.object_store.specs.Repositories.{StandsKnown}
-use Rattle.object_store.specs.Stores.{HasClaimed, IsRefusedCall, Moves, StandsFor}
+use Rattle.object_store.specs.Stores.{HasClaimed, IsLeftDuring, IsOnDisk, IsRefusedCall, Moves, StandsFor}
 use Rattle.object_store.specs.declared.store.Store.{Store}
 use Rattle.object_store.proofs.Standing.{claimant_told, each_missed}
 
@@ -72,23 +76,76 @@ stands_more old new items item s lawful k e each = record {
   legal = subst (λ (keyring : Contents). Legal keyring (items ++ item ∷ [])) (sym k) (legal_more old.keyring [] items item s.legal lawful);
 }
 
-module _ {D : Type 0} (reads : D → Option (List ℕ)) (images : D → List ℕ → Type 0) (old new : Store D) (core : Core) (s : StandsFor old core.items)
+-- a disk without a doubt may have one
+without_doubt : (bodies : List (List ℕ)) (doubt : Option (List ℕ)) (image : List ℕ) → HasBodies bodies image → MayHave bodies doubt image
+without_doubt bodies None image has = has
+without_doubt bodies (Some body) image has = inl has
+
+-- a stop before any event
+at_start : (keyring : Contents) (core : Core) (events : List Event) (image : List ℕ) → MayHave (bodies_of (durable_part core.items)) (body_in_doubt core.doubt) image
+    → IsLeftDuring keyring core events image
+at_start keyring core events image has = record { past = []; rest = events; all = refl; now = core; runs = refl; has = has }
+
+-- a stop behind a mend
+behind_mend : (keyring : Contents) (core : Core) (events : List Event) (image : List ℕ) → HasBodies (bodies_of (durable_part core.items)) image
+    → IsLeftDuring keyring core (mends ∷ events) image
+behind_mend keyring core events image has =
+    let mended : Core = record { items = core.items; doubt = None } in
+    record { past = mends ∷ []; rest = events; all = refl; now = mended; runs = (mended, refl, refl); has = has }
+
+-- a stop behind every event
+at_end : (keyring : Contents) (core : Core) (events : List Event) (image : List ℕ) (next : Core) → Runs keyring core events next
+    → MayHave (bodies_of (durable_part next.items)) (body_in_doubt next.doubt) image → IsLeftDuring keyring core events image
+at_end keyring core events image next runs has = record { past = events; rest = []; all = sym (append-nil events); now = next; runs = runs; has = has }
+
+module _ {D : Type 0} (reads : D → Option (List ℕ)) (images : D → List ℕ → Type 0) (moment : D → ℕ) (since : D → ℕ → List ℕ → Type 0) (now : (disk : D) (image : List ℕ) → since disk (moment disk) image → images disk image) (old new : Store D) (core : Core) (s : StandsFor old core.items)
     (k : new.keyring ≡ old.keyring) where
+  -- no call of the disk
+  pub still : (events : List Event) → new.journal ≡ old.journal → IsOnDisk reads images old core
+      → LeavesOnlyBetween moment since old.journal.disk new.journal.disk (IsLeftDuring old.keyring core events)
+  still events j h =
+      let bodies = bodies_of (durable_part core.items) in
+      let doubt = body_in_doubt core.doubt in
+      let disk = old.journal.disk in
+      subst (λ (x : Journal D). LeavesOnlyBetween moment since disk x.disk (IsLeftDuring old.keyring core events)) (sym j)
+      (leaves_none (IsLeft bodies doubt old.journal.end) (IsLeftDuring old.keyring core events) (moment disk) (reads disk) (since disk) (images disk)
+      (λ bytes left. at_start old.keyring core events bytes (left_has bodies doubt old.journal.end bytes left)) h.tells (now disk))
+
+  -- what is said of a call's moments
+  during : (events : List Event) (P : List (List ℕ) → Option (List ℕ) → List ℕ → Type 0)
+      → ((image : List ℕ) → P (bodies_of (durable_part core.items)) (body_in_doubt core.doubt) image → IsLeftDuring old.keyring core events image)
+      → CrashLeaves reads images moment since old.journal new.journal P → IsOnDisk reads images old core
+      → LeavesOnlyBetween moment since old.journal.disk new.journal.disk (IsLeftDuring old.keyring core events)
+  during events P each time h =
+      let bodies = bodies_of (durable_part core.items) in
+      let doubt = body_in_doubt core.doubt in
+      leaves_more (P bodies doubt) (IsLeftDuring old.keyring core events) (moment old.journal.disk) (moment new.journal.disk) (since old.journal.disk) (since new.journal.disk)
+      each (time bodies doubt h)
+
   -- an entry that was entered
   pub entered : (item : Item) → IsDurable item → Lawful old.keyring core.items item
       → new.history.entries.items ≡ old.history.entries.items ++ entry_of item ∷ []
       → ((q : Rid) → StandsKnown (get rid_cmp new.repositories q) q (core.items ++ item ∷ []))
       → ((bodies : List (List ℕ)) (doubt : Option (List ℕ)) → Holds reads images old.journal bodies doubt → Holds reads images new.journal (bodies ++ body_of item ∷ []) None)
-      → Moves reads images old new core (mends ∷ enters item ∷ [])
-  entered item durable lawful e each holds =
+      → CrashLeaves reads images moment since old.journal new.journal (MendedMayHave {T = Unit {0}} (Ok tt) (body_of item))
+      → Moves reads images moment since old new core (mends ∷ enters item ∷ [])
+  entered item durable lawful e each holds time =
       let mended : Core = record { items = core.items; doubt = None } in
       let next : Core = record { items = core.items ++ item ∷ []; doubt = None } in
+      let runs : Runs old.keyring core (mends ∷ enters item ∷ []) next = (mended, refl, (next, (refl, durable, lawful, refl), refl)) in
       record {
         next = next;
-        runs = (mended, refl, (next, (refl, durable, lawful, refl), refl));
+        runs = runs;
         stands = stands_more old new core.items item s lawful k e each;
         disk = λ h. subst (λ (bodies : List (List ℕ)). Holds reads images new.journal bodies None) (sym (bodies_more core.items item durable))
             (holds (bodies_of (durable_part core.items)) (body_in_doubt core.doubt) h);
+        time = during (mends ∷ enters item ∷ []) (MendedMayHave {T = Unit {0}} (Ok tt) (body_of item)) (λ image has. elim has [
+          | inl may ↦ at_start old.keyring core (mends ∷ enters item ∷ []) image may
+          | inr (inl none) ↦ behind_mend old.keyring core (enters item ∷ []) image none
+          | inr (inr one) ↦
+              at_end old.keyring core (mends ∷ enters item ∷ []) image next runs
+              (subst (λ (bodies : List (List ℕ)). HasBodies bodies image) (sym (bodies_more core.items item durable)) one)
+        ]) time;
       }
 
   -- an entry that is left in doubt
@@ -96,17 +153,27 @@ module _ {D : Type 0} (reads : D → Option (List ℕ)) (images : D → List ℕ
       → new.history.entries.items ≡ old.history.entries.items ++ Missed (Some rid) (left_of item) caller ∷ []
       → ((q : Rid) → StandsKnown (get rid_cmp new.repositories q) q core.items)
       → ((bodies : List (List ℕ)) (doubt : Option (List ℕ)) → Holds reads images old.journal bodies doubt → Holds reads images new.journal bodies (Some (body_of item)))
-      → Moves reads images old new core (mends ∷ doubts (Some rid) caller item ∷ [])
-  doubted rid caller item durable lawful e each holds =
+      → CrashLeaves reads images moment since old.journal new.journal (MendedMayHave {T = Unit {0}} (Err (faults.DiskFault true)) (body_of item))
+      → Moves reads images moment since old new core (mends ∷ doubts (Some rid) caller item ∷ [])
+  doubted rid caller item durable lawful e each holds time =
       let note = missed (Some rid) (left_of item) caller in
       let mended : Core = record { items = core.items; doubt = None } in
       let next : Core = record { items = core.items ++ note ∷ []; doubt = Some item } in
+      let events = mends ∷ doubts (Some rid) caller item ∷ [] in
+      let runs : Runs old.keyring core events next = (mended, refl, (next, (refl, durable, lawful, refl), refl)) in
       record {
         next = next;
-        runs = (mended, refl, (next, (refl, durable, lawful, refl), refl));
+        runs = runs;
         stands = stands_more old new core.items note s tt k e (each_missed new.repositories core.items (Some rid) (left_of item) caller each);
         disk = λ h. subst (λ (bodies : List (List ℕ)). Holds reads images new.journal bodies (Some (body_of item))) (sym (bodies_missed core.items (Some rid) (left_of item) caller))
             (holds (bodies_of (durable_part core.items)) (body_in_doubt core.doubt) h);
+        time = during events (MendedMayHave {T = Unit {0}} (Err (faults.DiskFault true)) (body_of item)) (λ image has. elim has [
+          | inl may ↦ at_start old.keyring core events image may
+          | inr (inl none) ↦ behind_mend old.keyring core (doubts (Some rid) caller item ∷ []) image none
+          | inr (inr one) ↦
+              at_end old.keyring core events image next runs
+              (inr (subst (λ (bodies : List (List ℕ)). HasBodies (bodies ++ body_of item ∷ []) image) (sym (bodies_missed core.items (Some rid) (left_of item) caller)) one))
+        ]) time;
       }
 
   -- what a fault that leaves nothing new leaves, by what the journal knows
@@ -126,8 +193,9 @@ module _ {D : Type 0} (reads : D → Option (List ℕ)) (images : D → List ℕ
       → ((q : Rid) → StandsKnown (get rid_cmp new.repositories q) q core.items)
       → ((bodies : List (List ℕ)) (doubt : Option (List ℕ)) → Holds reads images old.journal bodies doubt
       → Holds reads images new.journal bodies None ⊎ Holds reads images new.journal bodies doubt)
-      → Moves reads images old new core (mends ∷ misses (Some rid) caller ∷ []) ⊎ Moves reads images old new core (misses (Some rid) caller ∷ [])
-  missed_nothing rid caller e each holds = by_flag new.journal.in_doubt refl
+      → (body : List ℕ) → CrashLeaves reads images moment since old.journal new.journal (MendedMayHave {T = Unit {0}} (Err (faults.DiskFault false)) body)
+      → Moves reads images moment since old new core (mends ∷ misses (Some rid) caller ∷ []) ⊎ Moves reads images moment since old new core (misses (Some rid) caller ∷ [])
+  missed_nothing rid caller e each holds body time = by_flag new.journal.in_doubt refl
     where
       note : Item
       note = missed (Some rid) lefts.Nothing caller
@@ -136,7 +204,7 @@ module _ {D : Type 0} (reads : D → Option (List ℕ)) (images : D → List ℕ
       stands = stands_more old new core.items (missed (Some rid) lefts.Nothing caller) s tt k e (each_missed new.repositories core.items (Some rid) lefts.Nothing caller each)
 
       by_flag : (flag : Bool) → new.journal.in_doubt ≡ flag
-          → Moves reads images old new core (mends ∷ misses (Some rid) caller ∷ []) ⊎ Moves reads images old new core (misses (Some rid) caller ∷ [])
+          → Moves reads images moment since old new core (mends ∷ misses (Some rid) caller ∷ []) ⊎ Moves reads images moment since old new core (misses (Some rid) caller ∷ [])
       by_flag false f =
           let mended : Core = record { items = core.items; doubt = None } in
           let next : Core = record { items = core.items ++ missed (Some rid) lefts.Nothing caller ∷ []; doubt = None } in
@@ -146,6 +214,10 @@ module _ {D : Type 0} (reads : D → Option (List ℕ)) (images : D → List ℕ
             stands = stands;
             disk = λ h. subst (λ (bodies : List (List ℕ)). Holds reads images new.journal bodies None) (sym (bodies_missed core.items (Some rid) lefts.Nothing caller))
                 (settled (bodies_of (durable_part core.items)) (body_in_doubt core.doubt) (holds (bodies_of (durable_part core.items)) (body_in_doubt core.doubt) h) f);
+            time = during (mends ∷ misses (Some rid) caller ∷ []) (MendedMayHave {T = Unit {0}} (Err (faults.DiskFault false)) body) (λ image has. elim has [
+              | inl may ↦ at_start old.keyring core (mends ∷ misses (Some rid) caller ∷ []) image may
+              | inr none ↦ behind_mend old.keyring core (misses (Some rid) caller ∷ []) image none
+            ]) time;
           })
       by_flag true f =
           let next : Core = record { items = core.items ++ missed (Some rid) lefts.Nothing caller ∷ []; doubt = core.doubt } in
@@ -155,6 +227,12 @@ module _ {D : Type 0} (reads : D → Option (List ℕ)) (images : D → List ℕ
             stands = stands;
             disk = λ h. subst (λ (bodies : List (List ℕ)). Holds reads images new.journal bodies (body_in_doubt core.doubt)) (sym (bodies_missed core.items (Some rid) lefts.Nothing caller))
                 (doubtful (bodies_of (durable_part core.items)) (body_in_doubt core.doubt) (holds (bodies_of (durable_part core.items)) (body_in_doubt core.doubt) h) f);
+            time = during (misses (Some rid) caller ∷ []) (MendedMayHave {T = Unit {0}} (Err (faults.DiskFault false)) body) (λ image has. elim has [
+              | inl may ↦ at_start old.keyring core (misses (Some rid) caller ∷ []) image may
+              | inr none ↦
+                  at_start old.keyring core (misses (Some rid) caller ∷ []) image
+                  (without_doubt (bodies_of (durable_part core.items)) (body_in_doubt core.doubt) image none)
+            ]) time;
           })
 
   -- a call that a fault of the disk refused
@@ -163,17 +241,19 @@ module _ {D : Type 0} (reads : D → Option (List ℕ)) (images : D → List ℕ
       → ((q : Rid) → StandsKnown (get rid_cmp new.repositories q) q core.items)
       → ((bodies : List (List ℕ)) (doubt : Option (List ℕ)) → Holds reads images old.journal bodies doubt
       → LeavesDoubt reads images bodies doubt (body_of item) new.journal (faults.DiskFault in_doubt))
-      → IsRefusedCall reads images old new core rid caller item DiskFault
-  fault_left rid caller item true durable lawful e each left =
-      inl (doubted rid caller item durable lawful (e ∙ ap (λ (l : Left). old.history.entries.items ++ Missed (Some rid) l caller ∷ []) (left_is item durable)) each left)
-  fault_left rid caller item false durable lawful e each left = inr (missed_nothing rid caller e each left)
+      → CrashLeaves reads images moment since old.journal new.journal (MendedMayHave {T = Unit {0}} (Err (faults.DiskFault in_doubt)) (body_of item))
+      → IsRefusedCall reads images moment since old new core rid caller item DiskFault
+  fault_left rid caller item true durable lawful e each left time =
+      inl (doubted rid caller item durable lawful (e ∙ ap (λ (l : Left). old.history.entries.items ++ Missed (Some rid) l caller ∷ []) (left_is item durable)) each left time)
+  fault_left rid caller item false durable lawful e each left time = inr (missed_nothing rid caller e each left (body_of item) time)
 
   -- nothing happened
   pub nothing_done : new.history.entries.items ≡ old.history.entries.items → new.journal ≡ old.journal → ((q : Rid) → StandsKnown (get rid_cmp new.repositories q) q core.items)
-      → Moves reads images old new core []
+      → Moves reads images moment since old new core []
   nothing_done e j each = record {
     next = core;
     runs = refl;
     stands = record { entries = e ∙ s.entries; each = each; legal = subst (λ (keyring : Contents). Legal keyring core.items) (sym k) s.legal };
     disk = λ h. subst (λ (x : Journal D). Holds reads images x (bodies_of (durable_part core.items)) (body_in_doubt core.doubt)) (sym j) h;
+    time = still [] j;
   }

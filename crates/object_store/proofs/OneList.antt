@@ -1,5 +1,5 @@
 -- Bytes are a journal of the bodies of at most one list of entries.
-use Rattle.std.proofs.Common.{◌≡◌, ℕ, List, [], ◌∷◌, length, refl, ap, sym, arith}
+use Rattle.std.proofs.Common.{◌≡◌, ℕ, List, [], ◌∷◌, length, refl, ap, arith}
 use Rattle.std.specs.List.{AllByRecursion}
 use Rattle.ref_journal.proofs.OneReading.{one_journal}
 use Rattle.repo_entries.specs.Items.{Item}

@@ -1,5 +1,5 @@
 -- What a store stands for, and what its calls do.
-use Rattle.std.specs.Prelude.{◌≡◌, ◌⊎◌, ℕ, ◌+◌, ◌^◌, ◌<◌, ◌≤◌, List, [], ◌∷◌, map, Option}
+use Rattle.std.specs.Prelude.{◌≡◌, ◌⊎◌, ℕ, ◌+◌, ◌^◌, ◌<◌, ◌≤◌, List, [], ◌∷◌, ◌++◌, map, Option}
 use Rattle.std.specs.Prelude.{Some, Result, Ok, Err}
 use Rattle.std.specs.BTreeMap.{get}
 use Rattle.rad_base.specs.declared.names.Rid.{Rid}
@@ -16,7 +16,8 @@ use Rattle.repo_slice.specs.Verdicts.{IsVerdict}
 use Rattle.repo_slice.specs.declared.scope.Scope.{Scope}
 use Rattle.repo_slice.specs.declared.verdict.Judged.{Judged}
 use Rattle.entry_bodies.specs.Bodies.{install_size}
-use Rattle.ref_journal.specs.Holds.{Holds}
+use Rattle.ref_journal.specs.Holds.{Holds, LeavesOnlyBetween}
+use Rattle.ref_journal.specs.Moments.{MayHave}
 use Rattle.legal_history.specs.Cores.{Core, Event, Runs, claims, doubts, enters, mends, misses}
 use Rattle.legal_history.specs.Cores.{refuses}
 use Rattle.legal_history.specs.Durable.{durable_part}
@@ -42,50 +43,64 @@ IsOnDisk reads images store core =
     Holds reads images store.journal (bodies_of (durable_part core.items))
     (body_in_doubt core.doubt)
 
+-- an image that a stop may leave while these events happen: a journal of the durable part of the
+-- entries as some of the events leave them, with what is in doubt then or without it
+pub record IsLeftDuring (keyring : Contents) (core : Core) (events : List Event) (image : List ℕ)
+    : Type 0 where
+  pub past : List Event
+  pub rest : List Event
+  pub all : events ≡ past ++ rest
+  pub now : Core
+  pub runs : Runs keyring core past now
+  pub has : MayHave (bodies_of (durable_part now.items)) (body_in_doubt now.doubt) image
+
 -- a call of a store with this core was these events: it stands for what they make of it, and so
--- does its disk, where it told what the core says
+-- does its disk, where it told what the core says; a crash at any moment of the call then leaves
+-- what a stop among the events may leave
 pub record Moves {D : Type 0} (reads : D → Option (List ℕ)) (images : D → List ℕ → Type 0)
-    (old new : Store D)
-    (core : Core) (events : List Event) : Type 0 where
+    (moment : D → ℕ) (since : D → ℕ → List ℕ → Type 0) (old new : Store D) (core : Core)
+    (events : List Event) : Type 0 where
   pub next : Core
   pub runs : Runs old.keyring core events next
   pub stands : StandsFor new next.items
   pub disk : IsOnDisk reads images old core → IsOnDisk reads images new next
+  pub time : IsOnDisk reads images old core
+      → LeavesOnlyBetween moment since old.journal.disk new.journal.disk
+      (IsLeftDuring old.keyring core events)
 
 -- The events of a refused call that had this entry to write. A fault of the disk leaves it in
 -- doubt, behind a mend; or leaves nothing new, with a mend before it or without one. Else nothing
 -- happens.
-abbrev pub IsRefusedCall : {D : Type 0} → (D → Option (List ℕ)) → (D → List ℕ → Type 0) → Store D
-    → Store D → Core
-    → Rid → ℕ → Item → KeepFault → Type 0
-IsRefusedCall reads images old new core rid caller item keeps.DiskFault =
-    Moves reads images old new core (mends ∷ doubts (Some rid) caller item ∷ [])
-    ⊎ Moves reads images old new core (mends ∷ misses (Some rid) caller ∷ [])
-    ⊎ Moves reads images old new core (misses (Some rid) caller ∷ [])
-IsRefusedCall reads images old new core rid caller item keeps.Full = Moves reads images old new core []
-IsRefusedCall reads images old new core rid caller item (keeps.Changed change) = ⊥
-IsRefusedCall reads images old new core rid caller item keeps.NoMemory =
-    Moves reads images old new core []
+abbrev pub IsRefusedCall : {D : Type 0} → (D → Option (List ℕ)) → (D → List ℕ → Type 0) → (D → ℕ)
+    → (D → ℕ → List ℕ → Type 0) → Store D → Store D → Core → Rid → ℕ → Item → KeepFault → Type 0
+IsRefusedCall reads images moment since old new core rid caller item keeps.DiskFault =
+    Moves reads images moment since old new core (mends ∷ doubts (Some rid) caller item ∷ [])
+    ⊎ Moves reads images moment since old new core (mends ∷ misses (Some rid) caller ∷ [])
+    ⊎ Moves reads images moment since old new core (misses (Some rid) caller ∷ [])
+IsRefusedCall reads images moment since old new core rid caller item keeps.Full =
+    Moves reads images moment since old new core []
+IsRefusedCall reads images moment since old new core rid caller item (keeps.Changed change) = ⊥
+IsRefusedCall reads images moment since old new core rid caller item keeps.NoMemory =
+    Moves reads images moment since old new core []
 
 -- the events of a put: it enters behind a mend, or is refused
-abbrev pub IsPut : {D : Type 0} → (D → Option (List ℕ)) → (D → List ℕ → Type 0) → Store D
-    → Store D → Core
-    → Rid → List Object → ℕ → Result (Unit {0}) KeepFault → Type 0
-IsPut reads images old new core rid batch caller (Ok done) =
-    Moves reads images old new core (mends ∷ enters (put rid batch caller) ∷ [])
-IsPut reads images old new core rid batch caller (Err fault) =
-    IsRefusedCall reads images old new core rid caller (put rid batch caller) fault
+abbrev pub IsPut : {D : Type 0} → (D → Option (List ℕ)) → (D → List ℕ → Type 0) → (D → ℕ)
+    → (D → ℕ → List ℕ → Type 0) → Store D → Store D → Core → Rid → List Object → ℕ → Result (Unit {0}) KeepFault → Type 0
+IsPut reads images moment since old new core rid batch caller (Ok done) =
+    Moves reads images moment since old new core (mends ∷ enters (put rid batch caller) ∷ [])
+IsPut reads images moment since old new core rid batch caller (Err fault) =
+    IsRefusedCall reads images moment since old new core rid caller (put rid batch caller) fault
 
 -- the events of a claim
-abbrev pub IsClaiming : {D : Type 0} → (D → Option (List ℕ)) → (D → List ℕ → Type 0) → Store D
-    → Store D → Core
-    → Rid → ℕ → Result (Unit {0}) ClaimFault → Type 0
-IsClaiming reads images old new core rid caller (Ok done) = Moves reads images old new core
-    (claims rid caller ∷ [])
-IsClaiming reads images old new core rid caller (Err (claimed.Claimed other)) =
-    Moves reads images old new core [] × (claimant rid core.items ≡ other) × (1 ≤ other)
-IsClaiming reads images old new core rid caller (Err claimed.NoMemory) =
-    Moves reads images old new core []
+abbrev pub IsClaiming : {D : Type 0} → (D → Option (List ℕ)) → (D → List ℕ → Type 0) → (D → ℕ)
+    → (D → ℕ → List ℕ → Type 0) → Store D → Store D → Core → Rid → ℕ
+    → Result (Unit {0}) ClaimFault → Type 0
+IsClaiming reads images moment since old new core rid caller (Ok done) =
+    Moves reads images moment since old new core (claims rid caller ∷ [])
+IsClaiming reads images moment since old new core rid caller (Err (claimed.Claimed other)) =
+    Moves reads images moment since old new core [] × (claimant rid core.items ≡ other) × (1 ≤ other)
+IsClaiming reads images moment since old new core rid caller (Err claimed.NoMemory) =
+    Moves reads images moment since old new core []
 
 -- the caller claimed the repository
 pub record HasClaimed {D : Type 0} (store : Store D) (rid : Rid) (caller : ℕ) : Type 0 where
@@ -116,24 +131,24 @@ install_of rid caller judged = install rid judged.next_id judged.advanced caller
 
 -- What an install does. What was judged so enters behind a mend, or is refused; a whole refusal
 -- writes nothing; memory may be refused before anything is judged.
-abbrev pub IsInstall : {D : Type 0} → (D → Option (List ℕ)) → (D → List ℕ → Type 0) → Store D
-    → Store D → Core
-    → Rid → Offer → Scope → ℕ → Result (Result Judged Whole) KeepFault → Type 0
-IsInstall reads images old new core rid offer scope caller (Ok (Ok judged)) =
+abbrev pub IsInstall : {D : Type 0} → (D → Option (List ℕ)) → (D → List ℕ → Type 0) → (D → ℕ)
+    → (D → ℕ → List ℕ → Type 0) → Store D → Store D → Core → Rid → Offer → Scope → ℕ → Result (Result Judged Whole) KeepFault → Type 0
+IsInstall reads images moment since old new core rid offer scope caller (Ok (Ok judged)) =
     IsVerdictBehind old.keyring core.items rid offer scope (Ok judged)
-    × Moves reads images old new core (mends ∷ enters (install_of rid caller judged) ∷ [])
-IsInstall reads images old new core rid offer scope caller (Ok (Err why)) =
-    IsVerdictBehind old.keyring core.items rid offer scope (Err why) × Moves reads images old new core
-    (refuses rid why caller ∷ [])
-IsInstall reads images old new core rid offer scope caller (Err keeps.DiskFault) =
+    × Moves reads images moment since old new core (mends ∷ enters (install_of rid caller judged) ∷ [])
+IsInstall reads images moment since old new core rid offer scope caller (Ok (Err why)) =
+    IsVerdictBehind old.keyring core.items rid offer scope (Err why)
+    × Moves reads images moment since old new core (refuses rid why caller ∷ [])
+IsInstall reads images moment since old new core rid offer scope caller (Err keeps.DiskFault) =
     (judged : Judged) × IsVerdictBehind old.keyring core.items rid offer scope (Ok judged)
-    × IsRefusedCall reads images old new core rid caller (install_of rid caller judged) keeps.DiskFault
-IsInstall reads images old new core rid offer scope caller (Err keeps.Full) =
+    × IsRefusedCall reads images moment since old new core rid caller (install_of rid caller judged) keeps.DiskFault
+IsInstall reads images moment since old new core rid offer scope caller (Err keeps.Full) =
     (judged : Judged) × IsVerdictBehind old.keyring core.items rid offer scope (Ok judged)
-    × LacksRoomFor old.journal.end (install_of rid caller judged) × Moves reads images old new core []
-IsInstall reads images old new core rid offer scope caller (Err (keeps.Changed change)) = ⊥
-IsInstall reads images old new core rid offer scope caller (Err keeps.NoMemory) =
-    Moves reads images old new core []
+    × LacksRoomFor old.journal.end (install_of rid caller judged)
+    × Moves reads images moment since old new core []
+IsInstall reads images moment since old new core rid offer scope caller (Err (keeps.Changed change)) = ⊥
+IsInstall reads images moment since old new core rid offer scope caller (Err keeps.NoMemory) =
+    Moves reads images moment since old new core []
 
 -- the journal had room for what was judged
 abbrev pub JournalHadRoom : ℕ → Rid → ℕ → Result Judged Whole → Type 0

@@ -92,7 +92,8 @@ fn fault<D>(disk: D, why: Why) -> StoreFault<D>
 impl<D: Disk> Store<D> {
     ghost use Rattle.object_store.specs.Held.{IsUnclaimed, held_in};
     ghost use Rattle.object_store.specs.Shown.{AreRisingRids, IsShownAs, ShowsRepository};
-    ghost use Rattle.object_store.specs.Opened.{HasStoreOpenCause, IsOpenedStore, OpensAs, disk_of_opened};
+    ghost use Rattle.object_store.specs.Opened.{HasStoreOpenCause, IsOpenedStore, OpensAs};
+    ghost use Rattle.object_store.specs.Opened.{disk_of_opened};
     ghost use Rattle.object_store.specs.Stores.{EndsBehind, HasClaimed, IsClaiming, IsInstall, IsPut};
     ghost use Rattle.object_store.specs.Stores.{JournalHadRoom};
     ghost use Rattle.object_store.specs.Stores.{KeepsClaims, StandsForSome, StandsFor};
@@ -239,7 +240,8 @@ impl<D: Disk> Store<D> {
         ensures claimed { OnOk result (HasClaimed self.new rid.now caller) }
         ensures claims { KeepsClaims self.old self.new }
         ensures events { (core : Core) → StandsFor self.old core.items
-            → IsClaiming D.reads_as D.images self.old self.new core rid.now caller result }
+            → IsClaiming D.reads_as D.images D.moment D.images_since self.old self.new core
+            rid.now caller result }
     {
         self.history.make_room()?;
         claim_at(alloc, &mut self.repositories, rid, caller)?;
@@ -274,7 +276,8 @@ impl<D: Disk> Store<D> {
         ensures end_stays { OnErr result (self.new.journal.end ≡ self.old.journal.end) }
         ensures claims { KeepsClaims self.old self.new }
         ensures events { (core : Core) → StandsFor self.old core.items
-            → IsPut D.reads_as D.images self.old self.new core rid.now batch.now caller result }
+            → IsPut D.reads_as D.images D.moment D.images_since self.old self.new core
+            rid.now batch.now caller result }
     {
         let (entry, parcel) = self.prepare_put(alloc, rid, caller, batch)?;
         self.write(alloc, rid, caller, entry, &parcel)
@@ -304,8 +307,8 @@ impl<D: Disk> Store<D> {
         ensures end { EndsBehind self.old.journal.end self.new.journal.end result }
         ensures claims { KeepsClaims self.old self.new }
         ensures events { (core : Core) → StandsFor self.old core.items
-            → IsInstall D.reads_as D.images self.old self.new core rid.now offer.now scope.now
-            caller result }
+            → IsInstall D.reads_as D.images D.moment D.images_since self.old self.new core
+            rid.now offer.now scope.now caller result }
     {
         let judged = match self.judge(alloc, rid, offer, scope)? {
             Ok(judged) => judged,
@@ -408,10 +411,10 @@ impl<D: Disk> Store<D> {
         ensures keyring { self.new.keyring ≡ self.old.keyring }
         ensures others { (other : Rid) → other ≢ rid.now
             → get rid_cmp self.new.repositories other ≡ get rid_cmp self.old.repositories other }
-        ensures wrote { OnOk result (HasWritten D.reads_as D.images self.old self.new rid.now entry
-            parcel.now) }
-        ensures fault { IfErr result (IsWriteFault D.reads_as D.images self.old self.new rid.now
-            caller entry parcel.now) }
+        ensures wrote { OnOk result (HasWritten D.reads_as D.images D.moment D.images_since
+            self.old self.new rid.now entry parcel.now) }
+        ensures fault { IfErr result (IsWriteFault D.reads_as D.images D.moment D.images_since
+            self.old self.new rid.now caller entry parcel.now) }
     {
         match self.journal.append(parcel) {
             Ok(_) => {

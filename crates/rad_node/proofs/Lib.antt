@@ -1,5 +1,10 @@
 pub mod Commanding
+pub mod Completing
+pub mod Entered
+pub mod Entries
 pub mod Importing
 pub mod Moves
 pub mod Openings
+pub mod Rooms
 pub mod Running
+pub mod Spelled

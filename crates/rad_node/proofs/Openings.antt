@@ -2,8 +2,9 @@
 use Rattle.std.proofs.Common.{◌≡◌, ℕ, List, Option, None, Some, inl, inr, refl, sym, subst, arith}
 use Rattle.std.specs.Prelude.{IfSome, Ok}
 use Rattle.rad_base.specs.Faults.{Rose}
+use Rattle.rad_outside.specs.Disks.{Within}
 use Rattle.keyring.specs.Contents.{Contents}
-use Rattle.ref_journal.specs.Holds.{Holds}
+use Rattle.ref_journal.specs.Holds.{Holds, LeavesOnlyBetween, OnlyReads}
 use Rattle.repo_entries.specs.Items.{Item}
 use Rattle.object_store.specs.Bodies.{bodies_of}
 use Rattle.object_store.specs.Opened.{Explains, IsOpenedStore, IsStoreImage, OpensAs}
@@ -13,6 +14,7 @@ use Rattle.object_store.specs.declared.faults.Why.TheVariants as why
 use Rattle.object_store.specs.declared.store.Store.{Store}
 use Rattle.rad_node.specs.Opening.{HasOpened, IsOpeningFault, status_of}
 use Rattle.rad_node.specs.Imports.{IsImportEnd}
+use Rattle.rad_node.specs.Runs.{IsKept, LeavesAlso}
 use Rattle.rad_node.specs.Printing.{IsPrintingEnd, command_for}
 use Rattle.rad_node.specs.declared.command.Command.TheVariants as command
 use Rattle.rad_node.specs.declared.printing.Report.{Report}
@@ -39,6 +41,19 @@ has_opened reads images file (Some bytes) keyring store says opens h = record {
   stands = h.2;
   image = (h.1, h.3);
 }
+
+-- a call that only reads leaves at any moment of it what could be left before
+module _ {D : Type 0} (loan faults : D → ℕ) (reads : D → Option (List ℕ)) (images : D → List ℕ → Type 0) (moment : D → ℕ) (since : D → ℕ → List ℕ → Type 0)
+    (now : (disk : D) (image : List ℕ) → since disk (moment disk) image → images disk image) (old new : D) (r : OnlyReads loan faults reads images moment since old new) where
+  within_since : Within (since new (moment old)) (images old)
+  within_since image is = elim (r.time.before (moment old) image (omega arith) is) [ inl past ↦ now old image past | inr before ↦ before ]
+
+  pub kept_by : IsKept (reads old) (reads new) (images old) (images new) (since new (moment old))
+  kept_by = (r.same, r.within, within_since)
+
+  -- and so does a run that begins with it, or what it leaves then
+  pub leaves_since : (last : D) (P : List ℕ → Type 0) → LeavesOnlyBetween moment since new last P → LeavesAlso (images old) (since last (moment old)) P
+  leaves_since last P l = λ image is. elim (l.before (moment old) image r.time.later is) [ inl past ↦ inl (within_since image past) | inr has ↦ inr has ]
 
 -- a keyring that was read is one
 pub has_keyring : (file : Option (List ℕ)) (keyring : Contents) → IfSome file (λ bytes. SaysKeyring bytes keyring)
@@ -77,7 +92,7 @@ import_said files (status.ReadFault source.Keys) h i = tt
 import_said files (status.ReadFault source.Rules) h i = i
 import_said files (status.ReadFault source.Input) h i = tt
 import_said files status.WriteFault h i = tt
-import_said files status.DiskFault h i = h
+import_said files status.DiskFault h i = λ opens. h
 import_said files status.Unmade h i = absurd i
 import_said files (status.Damaged place) h i = absurd i
 import_said files (status.KeyringBad line) h i = absurd i

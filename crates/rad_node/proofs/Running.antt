@@ -22,7 +22,7 @@ use Rattle.object_store.specs.declared.repository.Repository.{Repository}
 use Rattle.object_store.specs.declared.store.Store.{Store}
 use Rattle.object_store.proofs.Holding.{held_is}
 use Rattle.store_keep.specs.Kept.{Kept, constants_at, constants_of, may_call}
-use Rattle.store_keep.specs.Made.{IsMade}
+use Rattle.store_keep.specs.Made.{IsMade, Start}
 use Rattle.store_keep.proofs.Imaging.{opened_made}
 use Rattle.fetch_stages.specs.Imports.{Came, EndsBy, Imports, IsBundleJob, IsEndOf, IsImportCause}
 use Rattle.fetch_stages.specs.declared.job_end.ImportEnd.{ImportEnd}
@@ -107,7 +107,7 @@ all_made rid end entries history e = record {
 }
 
 -- what was made, by the end
-record MadeSo {K : Type 0} (made : K → List Item → Type 0) (constants : Constants) (end : ℕ) (old new : K) (at_end : Type 0)
+record MadeSo {K O : Type 0} (made : K → O → List Item → Type 0) (constants : Constants) (end : ℕ) (old new : K) (at_end : Type 0)
     (bytes : List ℕ) (entries : List Item) (came : Came) (result : ImportEnd) : Type 0 where
   rid : Rid
   named : MayName bytes rid
@@ -115,7 +115,7 @@ record MadeSo {K : Type 0} (made : K → List Item → Type 0) (constants : Cons
   has : HasMade constants at_end came rid end entries history result
   makes : Makes made old new history
 
-module _ {K : Type 0} (made : K → List Item → Type 0) (constants : Constants) (end : ℕ) (old new : K) (held finally : Rid → Held) (at_end : Type 0)
+module _ {K O : Type 0} (made : K → O → List Item → Type 0) (constants : Constants) (end : ℕ) (old new : K) (held finally : Rid → Held) (at_end : Type 0)
     (bytes : List ℕ) (entries : List Item) (came : Came) (one : constants.caller ≡ 1) (job_is : IsBundleJob constants held bytes entries came) where
   stopped_at : (rid : Rid) (why : KeepFault) (history : List Item) → IsStopped rid constants.caller end entries why history → IsStopped rid 1 end entries why history
   stopped_at rid why history s = subst (λ (n : ℕ). IsStopped rid n end entries why history) one s
@@ -182,17 +182,18 @@ module _ {K : Type 0} (made : K → List Item → Type 0) (constants : Constants
       record { rid = r.0; named = r.1; history = []; has = none_made r.0 end entries; makes = e }
 
 -- the job of a bundle over a store that was opened
-pub has_run : {D : Type 0} (reads : D → Option (List ℕ)) (images : D → List ℕ → Type 0) (files : Files) (old new : Kept D) (l l' : Option (List ℕ)) (result : ImportEnd)
+pub has_run : {D : Type 0} (reads : D → Option (List ℕ)) (images : D → List ℕ → Type 0) (moment : D → ℕ) (since : D → ℕ → List ℕ → Type 0) (now : (disk : D) (image : List ℕ) → since disk (moment disk) image → images disk image) (files : Files) (old new : Kept D) (l l' : Option (List ℕ)) (result : ImportEnd)
     → old.caller ≡ 1 → IsUnclaimed old.store → HasOpened reads images files old.store → constants_of new ≡ constants_of old
-    → Imports (λ (k : Kept D) (items : List Item). IsMade reads images k.store items) (constants_of old) new.store.journal.end (λ (rid : Rid). held_at old.store rid)
+    → Imports (λ (k : Kept D) (start : Start D) (items : List Item). IsMade reads images moment since k.store start items) (constants_of old) new.store.journal.end (λ (rid : Rid). held_at old.store rid)
     (λ (rid : Rid). held_at new.store rid) old new l l' result
-    → HasRun reads images files (Consumes l l') (IsAtEnd l') new.store result
-has_run {D} reads images files old new l l' result one free opened same i =
+    → HasRun reads images moment since old.store.journal.disk files (Consumes l l') (IsAtEnd l') new.store result
+has_run {D} reads images moment since now files old new l l' result one free opened same i =
     let keyring : old.store.keyring ≡ new.store.keyring = sym (ap (λ (k : Constants). k.keyring) same) in
     let constants : constants_of old ≡ importing new.store.keyring =
     ap (λ (n : ℕ). constants_at old.store n) one ∙ for_every old.store free ∙ ap importing keyring in
     let held = held_everywhere old.store opened.stored opened.stands in
-    let m = made_so (λ (k : Kept D) (items : List Item). IsMade reads images k.store items) (constants_of old) new.store.journal.end old new
+    let start : Start D = record { disk = old.store.journal.disk; items = opened.stored } in
+    let m = made_so (λ (k : Kept D) (start : Start D) (items : List Item). IsMade reads images moment since k.store start items) (constants_of old) new.store.journal.end old new
     (λ (rid : Rid). held_at old.store rid) (λ (rid : Rid). held_at new.store rid) (IsAtEnd l') i.bytes i.entries i.came one i.job result i.ends i.named in
     record {
       stored = opened.stored;
@@ -215,6 +216,6 @@ has_run {D} reads images files old new l l' result one free opened same i =
       history = m.history;
       made = subst (λ (k : Constants). HasMade k (IsAtEnd l') i.came m.rid new.store.journal.end i.entries m.history result) constants m.has;
       store_has = if_told (λ bytes. IsStoreImage bytes opened.stored × Holds reads images old.store.journal (bodies_of opened.stored) None)
-          (λ bytes. IsMade reads images new.store (opened.stored ++ m.history)) files.store
-          (λ bytes x. m.makes opened.stored (opened_made reads images old.store opened.stored x.0.had_bodies opened.stands x.1)) opened.image;
+          (λ bytes. IsMade reads images moment since new.store start (opened.stored ++ m.history)) files.store
+          (λ bytes x. m.makes start opened.stored (opened_made reads images moment since now old.store opened.stored x.0.had_bodies opened.stands x.1)) opened.image;
     }

@@ -16,7 +16,7 @@ use Rattle.object_store.specs.Bodies.{bodies_of}
 use Rattle.object_store.specs.Held.{held_in}
 use Rattle.object_store.specs.Stores.{StandsFor}
 use Rattle.object_store.specs.declared.store.Store.{Store}
-use Rattle.store_keep.specs.Made.{IsImageOf, ReopensLegal}
+use Rattle.store_keep.specs.Made.{IsImageOf, IsPastImage, ReopensLegal}
 use Rattle.fetch_stages.specs.Imports.{Bad, Came, Inside, IsBundleJob, IsHeadOn, IsNamedBy, Long, Unjudged, Verdict}
 use Rattle.fetch_stages.specs.declared.job_end.ImportEnd.{ImportEnd}
 use Rattle.fetch_stages.specs.declared.job_end.ImportEnd.TheVariants as import
@@ -206,9 +206,11 @@ IsWholeRun other = ⊥
 -- The import of a bundle into a store that has these entries. The bundle's bytes were taken, and the job of
 -- those that were read has its entries and its stop. Those that were made stand behind the stored ones: every
 -- image that a crash now may leave is a journal of the durable part of both, or of it and the one entry in
--- doubt that the last missed one names, and has the bodies of a legal history. Where a report was given it is
--- that of the job's end, and nothing follows the bundle or it is too long.
-pub record Imported (counted : Option ℕ) (files : Files) (consumed : List ℕ → Type 0) (at_end : Type 0) (images gives : List ℕ → Type 0) (result : Status) : Type 0 where
+-- doubt that the last missed one names, and has the bodies of a legal history. An image that a crash at any
+-- moment of the run may have left is the same of the stored ones and some first of those that were made. Where a
+-- report was given it is that of the job's end, and nothing follows the bundle or it is too long.
+pub record Imported (counted : Option ℕ) (files : Files) (consumed : List ℕ → Type 0) (at_end : Type 0) (images : List ℕ → Type 0)
+    (leaves : (List ℕ → Type 0) → Type 0) (gives : List ℕ → Type 0) (result : Status) : Type 0 where
   pub keyring : Contents
   pub stored : List Item
   pub good : AreGood files keyring stored
@@ -230,5 +232,6 @@ pub record Imported (counted : Option ℕ) (files : Files) (consumed : List ℕ 
   pub end_is : IfSome files.store (λ _. end ≡ gate_behind (bodies_of (durable_part (stored ++ history))))
   pub images_are : IfSome files.store (λ _. (image : List ℕ) → images image → IsImageOf (stored ++ history) image)
   pub legal : IfSome files.store (λ _. (image : List ℕ) → images image → ReopensLegal keyring image)
+  pub moments : IfSome files.store (λ _. leaves (IsPastImage keyring stored (stored ++ history)))
   pub ended : HasReport result → IsReportable at_end came
   pub report : HasReport result → (text : List ℕ) × IsReported counted files.store keyring (stored ++ history) came rid text × gives text

@@ -45,8 +45,10 @@ HasMade constants at_end came rid end entries history import.ReadFault = history
 HasMade constants at_end came rid end entries history (import.InputBad place) = IsBadInput at_end came place × (history ≡ entries)
 HasMade constants at_end came rid end entries history import.NoMemory = IsStopped rid 1 end entries fault.NoMemory history
 
--- the job of a bundle ran over the entries of a store that was opened, and the store has what it made behind them
-pub record HasRun {D : Type 0} (reads : D → Option (List ℕ)) (images : D → List ℕ → Type 0) (files : Files)
+-- the job of a bundle ran over the entries of a store that was opened on this disk, and the store has what it made
+-- behind them
+pub record HasRun {D : Type 0} (reads : D → Option (List ℕ)) (images : D → List ℕ → Type 0) (moment : D → ℕ)
+    (since : D → ℕ → List ℕ → Type 0) (first : D) (files : Files)
     (consumed : List ℕ → Type 0) (at_end : Type 0) (store : Store D) (result : ImportEnd) : Type 0 where
   pub stored : List Item
   pub good : AreGood files store.keyring stored
@@ -61,4 +63,5 @@ pub record HasRun {D : Type 0} (reads : D → Option (List ℕ)) (images : D →
   pub named : MayName bytes rid
   pub history : List Item
   pub made : HasMade (importing store.keyring) at_end came rid store.journal.end entries history result
-  pub store_has : IfSome files.store (λ _. IsMade reads images store (stored ++ history))
+  pub store_has : IfSome files.store
+      (λ _. IsMade reads images moment since store (record { disk = first; items = stored }) (stored ++ history))

@@ -1,4 +1,5 @@
 pub mod Commands
+pub mod Completeness
 pub mod Done
 pub mod Ends
 pub mod Generating

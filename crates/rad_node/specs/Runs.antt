@@ -31,9 +31,13 @@ OnlyReadsDisk Heads status = Unit {0}
 OnlyReadsDisk Audit status = Unit {0}
 OnlyReadsDisk (Gen commits) status = IsOpeningEnd status
 
--- the disk has the bytes from before, and a crash leaves nothing new
-abbrev pub IsKept : Option (List ℕ) → Option (List ℕ) → (List ℕ → Type 0) → (List ℕ → Type 0) → Type 0
-IsKept old new before after = Keeps old new × Within after before
+-- the disk has the bytes from before, and a crash leaves nothing new, now or at any moment of the run
+abbrev pub IsKept : Option (List ℕ) → Option (List ℕ) → (List ℕ → Type 0) → (List ℕ → Type 0) → (List ℕ → Type 0) → Type 0
+IsKept old new before after since = Keeps old new × Within after before × Within since before
+
+-- an image that a crash at any moment of the run may have left is one from before, or has P
+abbrev pub LeavesAlso : (List ℕ → Type 0) → (List ℕ → Type 0) → (List ℕ → Type 0) → Type 0
+LeavesAlso before since P = (image : List ℕ) → since image → before image ⊎ P image
 
 -- no store was made, and every image that a crash now may leave is one without entries
 abbrev pub IsMadeStore : Option (List ℕ) → (List ℕ → Type 0) → Type 0

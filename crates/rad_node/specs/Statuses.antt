@@ -92,7 +92,7 @@ pub record AreGood (files : Files) (keyring : Contents) (stored : List Item) : T
   pub store : IfSome files.store (λ bytes. IsStoreImage bytes stored)
   pub legal : Legal keyring stored
 
--- the command opens a store under a keyring
+-- the command opens a store under a keyring, which takes memory
 abbrev pub OpensStore : Command → Type 0
 OpensStore Init = ⊥
 OpensStore Import = Unit {0}
@@ -101,23 +101,16 @@ OpensStore Heads = Unit {0}
 OpensStore Audit = Unit {0}
 OpensStore (Gen commits) = Unit {0}
 
--- the command reads a keyring file
-abbrev pub ReadsKeyring : Command → Type 0
-ReadsKeyring Init = ⊥
-ReadsKeyring Import = Unit {0}
-ReadsKeyring Show = Unit {0}
-ReadsKeyring Heads = Unit {0}
-ReadsKeyring Audit = Unit {0}
-ReadsKeyring (Gen commits) = ⊥
-
--- the command reads a bundle
-abbrev pub ReadsBundle : Command → Type 0
-ReadsBundle Init = ⊥
-ReadsBundle Import = Unit {0}
-ReadsBundle Show = ⊥
-ReadsBundle Heads = ⊥
-ReadsBundle Audit = ⊥
-ReadsBundle (Gen commits) = ⊥
+-- the command reads this source
+abbrev pub ReadsSource : Command → WhichSource → Type 0
+ReadsSource Init which = ⊥
+ReadsSource Import source.Keys = Unit {0}
+ReadsSource Import source.Rules = ⊥
+ReadsSource Import source.Input = Unit {0}
+ReadsSource Show which = which ≡ source.Keys
+ReadsSource Heads which = which ≡ source.Keys
+ReadsSource Audit which = which ≡ source.Keys
+ReadsSource (Gen commits) which = ⊥
 
 -- the command takes a bundle
 abbrev pub TakesBundle : Command → Type 0
@@ -128,33 +121,9 @@ TakesBundle Heads = ⊥
 TakesBundle Audit = ⊥
 TakesBundle (Gen commits) = Unit {0}
 
--- the command reads this source
-abbrev pub ReadsSource : Command → WhichSource → Type 0
-ReadsSource command source.Keys = ReadsKeyring command
-ReadsSource command source.Rules = ⊥
-ReadsSource command source.Input = ReadsBundle command
-
--- the command may meet a want of memory
-abbrev pub TakesMemory : Command → Type 0
-TakesMemory Init = ⊥
-TakesMemory Import = Unit {0}
-TakesMemory Show = Unit {0}
-TakesMemory Heads = Unit {0}
-TakesMemory Audit = Unit {0}
-TakesMemory (Gen commits) = Unit {0}
-
 -- the keyring file, where it is told, was read
 abbrev pub HasKeyring : Files → Type 0
 HasKeyring files = IfSome files.keyring (λ file. (keyring : Contents) × SaysKeyring file keyring)
-
--- a command that opens a store has read its keyring before it asks the disk
-abbrev pub HasReadKeyring : Command → Files → Type 0
-HasReadKeyring Init files = Unit {0}
-HasReadKeyring Import files = HasKeyring files
-HasReadKeyring Show files = HasKeyring files
-HasReadKeyring Heads files = HasKeyring files
-HasReadKeyring Audit files = HasKeyring files
-HasReadKeyring (Gen commits) files = HasKeyring files
 
 -- a command may end so, and what is said of the files is so
 abbrev pub IsSaid : Command → Files → Status → Type 0
@@ -162,7 +131,7 @@ IsSaid command files Ok = Unit {0}
 IsSaid command files Usage = ⊥
 IsSaid command files (ReadFault which) = ReadsSource command which
 IsSaid command files WriteFault = Unit {0}
-IsSaid command files DiskFault = HasReadKeyring command files
+IsSaid command files DiskFault = OpensStore command → HasKeyring files
 IsSaid command files Unmade = OpensStore command × HasKeyring files × IfSome files.store IsUnmade
 IsSaid command files (Damaged place) = OpensStore command × HasKeyring files × IfSome files.store (IsDamagedStore place)
 IsSaid command files (KeyringBad line) = OpensStore command × IfSome files.keyring (IsBadKeyring line)
@@ -172,7 +141,7 @@ IsSaid command files Full = TakesBundle command
 IsSaid command files (NotLegal n) = OpensStore command × IfSome files.store (IsIllegalStore files n)
 IsSaid command files AlreadyMade = (command ≡ Init) × IfSome files.store (λ bytes. IsUnmade bytes → ⊥)
 IsSaid command files (Changed change) = ⊥
-IsSaid command files NoMemory = TakesMemory command
+IsSaid command files NoMemory = OpensStore command
 
 -- the run ended at its keyring
 abbrev pub IsKeyringEnd : Status → Type 0

@@ -4,7 +4,7 @@ ghost use Rattle.std.specs.Io.KnownBytes.{Keeps};
 ghost use Rattle.rad_base.specs.Faults.{Rose};
 ghost use Rattle.rad_node.specs.Done.{MayBeUnopened};
 ghost use Rattle.rad_node.specs.Generating.{ImportsGenerated};
-ghost use Rattle.rad_node.specs.Runs.{HasReport, IsKept};
+ghost use Rattle.rad_node.specs.Runs.{HasReport, IsKept, LeavesAlso};
 ghost use Rattle.rad_node.specs.Statuses.{IsCaused, IsOpeningEnd, IsSaid, generated_keyring};
 ghost use Rattle.rad_node.specs.Transfers.{GivesBy};
 ghost use Rattle.rad_node.specs.declared.command.Command.TheVariants as command;
@@ -32,11 +32,12 @@ pub(crate) fn generate<D: Disk, W: Sink>(
     ensures said { IsSaid (command.Gen commits)
         (record { keyring = Some (generated_keyring commits); store = D.reads_as disk }) result.0 }
     ensures kept { IsOpeningEnd result.0 → IsKept (D.reads_as disk) (D.reads_as result.1)
-        (D.images disk) (D.images result.1) }
+        (D.images disk) (D.images result.1) (D.images_since result.1 (D.moment disk)) }
     ensures done { ImportsGenerated commits (D.reads_as disk) (D.images result.1)
+        (LeavesAlso (D.images disk) (D.images_since result.1 (D.moment disk)))
         (GivesBy result.0 (W.given out.old) (W.given out.new)) result.0
         ⊎ (MayBeUnopened result.0 × IsKept (D.reads_as disk) (D.reads_as result.1)
-        (D.images disk) (D.images result.1)) }
+        (D.images disk) (D.images result.1) (D.images_since result.1 (D.moment disk))) }
     ensures silent { (HasReport result.0 → ⊥) → Keeps (W.given out.old) (W.given out.new) }
 {
     let Ok(made) = bundle_of(alloc, commits) else {

@@ -8,7 +8,8 @@ ghost use Rattle.rad_node.specs.Done.{MayBeUnopened};
 ghost use Rattle.rad_node.specs.Imports.{Imported, IsImportEnd, IsJobReportEnd, IsStatusOf};
 ghost use Rattle.rad_node.specs.Imports.{TellsImport, TellsJob};
 ghost use Rattle.rad_node.specs.Opening.{HasOpened};
-ghost use Rattle.rad_node.specs.Runs.{HasReport, IsKept};
+ghost use Rattle.rad_node.specs.Runs.{HasReport, IsKept, LeavesAlso};
+ghost use Rattle.ref_journal.specs.Holds.{LeavesOnlyBetween};
 ghost use Rattle.rad_node.specs.Statuses.{Files, IsCaused, IsKeyringEnd, IsOpeningEnd, IsSaid};
 ghost use Rattle.rad_node.specs.Transfers.{GivesBy};
 ghost use Rattle.rad_node.specs.declared.command.Command.TheVariants as command;
@@ -142,6 +143,7 @@ fn import_bundle<D: Disk, I: Source, W: Sink>(
     ensures imported { (files : Files) → HasOpened D.reads_as D.images files store
         → Imported counted files (Consumes (I.left input.old) (I.left input.new))
         (IsAtEnd (I.left input.new)) (D.images result.1)
+        (LeavesOnlyBetween D.moment D.images_since store.journal.disk result.1)
         (GivesBy result.0 (W.given out.old) (W.given out.new)) result.0 }
     ensures silent { (HasReport result.0 → ⊥) → Keeps (W.given out.old) (W.given out.new) }
 {
@@ -171,12 +173,13 @@ pub(crate) fn import<D: Disk, S: Source, I: Source, W: Sink>(
     ensures said { IsSaid command.Import
         (record { keyring = S.left keys.old; store = D.reads_as disk }) result.0 }
     ensures kept { IsOpeningEnd result.0 → IsKept (D.reads_as disk) (D.reads_as result.1)
-        (D.images disk) (D.images result.1) }
+        (D.images disk) (D.images result.1) (D.images_since result.1 (D.moment disk)) }
     ensures done { Imported counted (record { keyring = S.left keys.old; store = D.reads_as disk })
         (Consumes (I.left input.old) (I.left input.new)) (IsAtEnd (I.left input.new))
-        (D.images result.1) (GivesBy result.0 (W.given out.old) (W.given out.new)) result.0
-        ⊎ (MayBeUnopened result.0 × IsKept (D.reads_as disk) (D.reads_as result.1)
-        (D.images disk) (D.images result.1) × (input.new ≡ input.old)) }
+        (D.images result.1) (LeavesAlso (D.images disk) (D.images_since result.1 (D.moment disk)))
+        (GivesBy result.0 (W.given out.old) (W.given out.new)) result.0
+        ⊎ (MayBeUnopened result.0 × IsKept (D.reads_as disk) (D.reads_as result.1) (D.images disk)
+        (D.images result.1) (D.images_since result.1 (D.moment disk)) × (input.new ≡ input.old)) }
     ensures silent { (HasReport result.0 → ⊥) → Keeps (W.given out.old) (W.given out.new) }
 {
     match open_store(alloc, disk, keys) {

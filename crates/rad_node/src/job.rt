@@ -66,7 +66,7 @@ pub(crate) fn run_job<D: Disk, I: Source>(
     ensures cause { IsEndCaused (Rose (I.faults input.old) (I.faults input.new))
         (Rose (D.faults store.journal.disk) (D.faults result.1.journal.disk)) result.0 }
     ensures run { (files : Files) → HasOpened D.reads_as D.images files store
-        → HasRun D.reads_as D.images files (Consumes (I.left input.old) (I.left input.new))
+        → HasRun D.reads_as D.images D.moment D.images_since store.journal.disk files (Consumes (I.left input.old) (I.left input.new))
         (IsAtEnd (I.left input.new)) result.1 result.0 }
 {
     let mut keep = StoreKeep::new(alloc, store, CALLER);

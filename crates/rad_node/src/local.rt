@@ -1,11 +1,18 @@
 // The run of a command over what it is handed.
-ghost use Rattle.std.specs.Prelude.{◌≡◌, ◌≤◌};
+ghost use Rattle.std.specs.Prelude.{◌≡◌, ◌≤◌, List, Result};
 ghost use Rattle.std.specs.Io.KnownBytes.{Consumes, IsAtEnd, Keeps};
 ghost use Rattle.rad_base.specs.Faults.{Rose};
+ghost use Rattle.keyring.specs.Contents.{Contents};
+ghost use Rattle.repo_entries.specs.Items.{Item};
+ghost use Rattle.repo_entries.specs.declared.whole.Whole.{Whole};
+ghost use Rattle.repo_slice.specs.declared.verdict.Judged.{Judged};
+ghost use Rattle.fetch_wire.specs.Bundles.{Bundle};
 ghost use Rattle.rad_node.specs.Commands.{IsInRange, Says};
+ghost use Rattle.rad_node.specs.Completeness.{AreInOrder, EndsWell, IsBundle, IsEntered};
+ghost use Rattle.rad_node.specs.Completeness.{IsFaultless, IsInOrder, TakesSuch, counted_by};
 ghost use Rattle.rad_node.specs.Done.{IsDone};
-ghost use Rattle.rad_node.specs.Runs.{HasReport, IsKept, OnlyReadsDisk};
-ghost use Rattle.rad_node.specs.Statuses.{IsCaused, IsOrdered, IsSaid, IsUsage, files_of};
+ghost use Rattle.rad_node.specs.Runs.{HasReport, IsKept, LeavesAlso, OnlyReadsDisk};
+ghost use Rattle.rad_node.specs.Statuses.{IsCaused, IsOrdered, IsSaid, IsUsage, TakesBundle, files_of};
 ghost use Rattle.rad_node.specs.Transfers.{GivesBy};
 ghost use Rattle.rad_node.specs.declared.command.Command.{Command as IsCommand};
 
@@ -37,12 +44,14 @@ fn run_command<D: Disk, S: Source, I: Source, W: Sink>(
     ensures said { IsSaid command (files_of command
         (record { keyring = S.left keys.old; store = D.reads_as disk })) result.0 }
     ensures kept { OnlyReadsDisk command result.0
-        → IsKept (D.reads_as disk) (D.reads_as result.1) (D.images disk) (D.images result.1) }
+        → IsKept (D.reads_as disk) (D.reads_as result.1) (D.images disk) (D.images result.1)
+        (D.images_since result.1 (D.moment disk)) }
     ensures done { IsDone command (record { keyring = S.left keys.old; store = D.reads_as disk })
         (Consumes (I.left input.old) (I.left input.new)) (IsAtEnd (I.left input.new))
-        (D.images result.1) (GivesBy result.0 (W.given out.old) (W.given out.new))
+        (D.images result.1) (LeavesAlso (D.images disk) (D.images_since result.1 (D.moment disk)))
+        (GivesBy result.0 (W.given out.old) (W.given out.new))
         (IsKept (D.reads_as disk) (D.reads_as result.1) (D.images disk) (D.images result.1)
-        × (input.new ≡ input.old)) result.0 }
+        (D.images_since result.1 (D.moment disk)) × (input.new ≡ input.old)) result.0 }
     ensures silent { (HasReport result.0 → ⊥) → Keeps (W.given out.old) (W.given out.new) }
 {
     match command {
@@ -101,14 +110,30 @@ pub fn run_local<D: Disk, S: Source, I: Source, W: Sink>(
         result }
     ensures kept { (command : IsCommand) → Says words.now command → OnlyReadsDisk command result
         → IsKept (D.reads_as disk.old) (D.reads_as disk.new)
-        (D.images disk.old) (D.images disk.new) }
+        (D.images disk.old) (D.images disk.new) (D.images_since disk.new (D.moment disk.old)) }
     ensures done { (command : IsCommand) → Says words.now command → IsDone command
         (record { keyring = S.left keys.old; store = D.reads_as disk.old })
         (Consumes (I.left input.old) (I.left input.new)) (IsAtEnd (I.left input.new))
-        (D.images disk.new) (GivesBy result (W.given out.old) (W.given out.new))
-        (IsKept (D.reads_as disk.old) (D.reads_as disk.new)
-        (D.images disk.old) (D.images disk.new) × (input.new ≡ input.old)) result }
+        (D.images disk.new)
+        (LeavesAlso (D.images disk.old) (D.images_since disk.new (D.moment disk.old)))
+        (GivesBy result (W.given out.old) (W.given out.new))
+        (IsKept (D.reads_as disk.old) (D.reads_as disk.new) (D.images disk.old) (D.images disk.new)
+        (D.images_since disk.new (D.moment disk.old)) × (input.new ≡ input.old)) result }
     ensures silent { (HasReport result → ⊥) → Keeps (W.given out.old) (W.given out.new) }
+    ensures complete { (command : IsCommand) → Says words.now command → IsInOrder command
+        (record { keyring = S.left keys.old; store = D.reads_as disk.old }) (I.left input.old)
+        → IsFaultless (Rose (S.faults keys.old) (S.faults keys.new))
+        (Rose (I.faults input.old) (I.faults input.new))
+        (Rose (D.faults disk.old) (D.faults disk.new)) (Rose (W.faults out.old) (W.faults out.new))
+        → EndsWell command result }
+    ensures entered { (command : IsCommand) → Says words.now command
+        → (keyring : Contents) (stored entries : List Item) (bundle : Bundle)
+        (verdict : Result Judged Whole) → TakesBundle command → AreInOrder (files_of command
+        (record { keyring = S.left keys.old; store = D.reads_as disk.old })) keyring stored
+        → TakesSuch command (I.left input.old) (IsBundle keyring stored bundle verdict entries)
+        → HasReport result
+        → IsEntered (counted_by command) keyring stored bundle verdict entries (D.images disk.new)
+        (GivesBy result (W.given out.old) (W.given out.new)) result }
 {
     let Some(command) = command_of(words) else {
         return Status::Usage;

@@ -7,10 +7,12 @@ mod command;
 mod generating;
 mod import;
 mod job;
+mod laws;
 mod local;
 mod making;
 mod opening;
 mod printing;
+mod progress;
 mod report;
 #[cfg(test)]
 mod runs;
@@ -19,7 +21,9 @@ mod transfer;
 mod whole_bytes;
 
 pub use command::{Command, command_of};
+pub use laws::bundles_make_one_list_of_entries;
 pub use local::run_local;
+use progress::{Progress, Watched};
 use rad_outside::{FileDisk, FileSource, StdSink};
 pub use status::{Status, WhichSource};
 use std::env;
@@ -33,7 +37,8 @@ usage: rad_node COMMAND
 Keeps repositories of the Radicle network in a store: identities, and the signed branches of each
 person, as they were accepted.
 
-  rad_node init STORE                   make an empty store; a file that is none is lost
+  rad_node init STORE                   make an empty store; a file that is no store loses its
+                                        first nine bytes
   rad_node import STORE KEYRING BUNDLE  take what a bundle offers into the store, and report it
   rad_node show STORE KEYRING           print each repository's identity and remotes
   rad_node heads STORE KEYRING          print each repository's canonical head
@@ -107,20 +112,32 @@ fn print(rt: &HostRuntime, text: &str) -> Status {
     }
 }
 
+// The line of progress while an import reads its bundle.
+fn progress_of(rt: &HostRuntime, words: &[String], bundle: &str) -> Option<Progress> {
+    match words.first() {
+        Some(word) if word.as_str() == "import" => Progress::of_file(rt, bundle),
+        _ => None,
+    }
+}
+
 // Runs a command of the words over real files.
 fn run_command(rt: &HostRuntime, words: &[String]) -> Result<Status, Status> {
     let mut disk = FileDisk::new(*rt, path_at(rt, words, 1)?);
     let mut keys = FileSource::new(*rt, path_at(rt, words, 2)?);
-    let mut input = FileSource::new(*rt, path_at(rt, words, 3)?);
+    let bundle = path_at(rt, words, 3)?;
+    let progress = progress_of(rt, words, bundle.as_str());
+    let mut input = Watched::new(FileSource::new(*rt, bundle), progress);
     let mut out = StdSink::new(*rt);
-    Ok(run_local(
+    let status = run_local(
         rt.alloc(),
         words,
         &mut disk,
         &mut keys,
         &mut input,
         &mut out,
-    ))
+    );
+    input.clear();
+    Ok(status)
 }
 
 fn run(rt: &HostRuntime) -> Result<Status, Status> {

@@ -6,6 +6,7 @@ ghost use Rattle.object_store.specs.Held.{IsUnclaimed};
 ghost use Rattle.object_store.specs.Stores.{StandsForSome};
 ghost use Rattle.rad_node.specs.Opening.{HasOpened, IsKeyringFault, IsOpeningFault};
 ghost use Rattle.rad_node.specs.Opening.{disk_of_opening, status_of};
+ghost use Rattle.rad_node.specs.Runs.{IsKept};
 ghost use Rattle.rad_node.specs.Statuses.{Files, IsKeyringEnd, SaysKeyring};
 
 use crate::status::{Status, WhichSource};
@@ -69,6 +70,9 @@ pub(crate) fn open_store<D: Disk, S: Source>(
 ) -> Result<Store<D>, Refusal<D>>
     ensures reads { OnlyReads D.loan D.faults D.reads_as D.images D.moment D.images_since
         disk (disk_of_opening result) }
+    ensures kept { IsKept (D.reads_as disk) (D.reads_as (disk_of_opening result)) (D.images disk)
+        (D.images (disk_of_opening result))
+        (D.images_since (disk_of_opening result) (D.moment disk)) }
     ensures later { S.faults keys.old ≤ S.faults keys.new }
     ensures stands { IfOk result StandsForSome }
     ensures unclaimed { IfOk result IsUnclaimed }

@@ -82,7 +82,7 @@ pub(crate) fn print_store<D: Disk, S: Source, W: Sink>(
     ensures said { IsSaid (command_for which)
         (record { keyring = S.left keys.old; store = D.reads_as disk }) result.0 }
     ensures kept { IsKept (D.reads_as disk) (D.reads_as result.1)
-        (D.images disk) (D.images result.1) }
+        (D.images disk) (D.images result.1) (D.images_since result.1 (D.moment disk)) }
     ensures done { HasReport result.0
         → Printed which (record { keyring = S.left keys.old; store = D.reads_as disk })
         (GivesBy result.0 (W.given out.old) (W.given out.new)) }

@@ -5,12 +5,12 @@ use Rattle.rad_outside.specs.Disks.{Changes, Follows, Torn}
 use Rattle.ref_journal.specs.Frames.{IsBody, frame_of, gate_behind}
 use Rattle.ref_journal.specs.Holds.{LeavesDoubt, Tells}
 use Rattle.ref_journal.specs.Images.{IsInDoubt, IsJournal, IsLeft}
-use Rattle.ref_journal.specs.Moments.{HasBodiesOrOneMore, LeavesOnly, LeavesTorn, MayHave, WritesDurably}
+use Rattle.ref_journal.specs.Moments.{HasBodies, HasBodiesOrOneMore, LeavesOnly, LeavesTorn, MayHave, WritesDurably}
 use Rattle.ref_journal.specs.declared.faults.AppendFault.{AppendFault}
 use Rattle.ref_journal.specs.declared.faults.AppendFault.TheVariants.{Full, DiskFault}
 use Rattle.ref_journal.specs.declared.journal.Journal.{Journal}
 use Rattle.ref_journal.proofs.Entering.{Staged, closed_doubt, doubt_has, entered, left_has, staged, staged_doubt, torn_behind, torn_doubt}
-use Rattle.ref_journal.proofs.Lasting.{leaves_both, leaves_none, leaves_torn, told_torn, told_written}
+use Rattle.ref_journal.proofs.Lasting.{leaves_both, leaves_more, leaves_none, leaves_torn, told_torn, told_written}
 use Rattle.ref_journal.proofs.Scanning.{gate_behind-push}
 
 -- the first write lasts: the frame stands behind the closed gate
@@ -76,12 +76,12 @@ pub moments_none : (bodies : List (List ℕ)) (doubt : Option (List ℕ)) (end m
 moments_none bodies doubt end m a s images t now = leaves_none (IsLeft bodies doubt end) (MayHave bodies doubt) m a s images (λ bytes left. left_has bodies doubt end bytes left) t now
 
 -- the moments of the first write
-pub moments_first : (bodies : List (List ℕ)) (body : List ℕ) (end n m0 m1 : ℕ) (a : Option (List ℕ)) (s0 s1 : ℕ → List ℕ → Type 0) (images : List ℕ → Type 0)
+pub moments_first : (bodies : List (List ℕ)) (end n m0 m1 : ℕ) (a : Option (List ℕ)) (s0 s1 : ℕ → List ℕ → Type 0) (images : List ℕ → Type 0)
     → Tells (IsJournal bodies end) a images → ((image : List ℕ) → s0 m0 image → images image) → LeavesTorn (end + 1) n m0 m1 s0 s1 images
-    → LeavesOnly m0 m1 s0 s1 (HasBodiesOrOneMore bodies body)
-moments_first bodies body end n m0 m1 a s0 s1 images t now l =
-    leaves_torn (IsJournal bodies end) (HasBodiesOrOneMore bodies body) (end + 1) n m0 m1 a s0 s1 images (λ bytes j. inl (left_has bodies None end bytes j))
-    (λ old new j torn. inl (left_has bodies None end new (torn_behind bodies end n old new j torn))) t now l
+    → LeavesOnly m0 m1 s0 s1 (HasBodies bodies)
+moments_first bodies end n m0 m1 a s0 s1 images t now l =
+    leaves_torn (IsJournal bodies end) (HasBodies bodies) (end + 1) n m0 m1 a s0 s1 images (λ bytes j. left_has bodies None end bytes j)
+    (λ old new j torn. left_has bodies None end new (torn_behind bodies end n old new j torn)) t now l
 
 -- the moments of both
 pub moments_second : (bodies : List (List ℕ)) (body frame : List ℕ) (end n m0 m1 m2 : ℕ) (a b : Option (List ℕ)) (s0 s1 s2 : ℕ → List ℕ → Type 0) (images mid : List ℕ → Type 0)
@@ -91,7 +91,8 @@ pub moments_second : (bodies : List (List ℕ)) (body frame : List ℕ) (end n m
 moments_second bodies body frame end n m0 m1 m2 a b s0 s1 s2 images mid f fits t now then l w k =
     let behind = told_staged bodies body frame end a b images mid f t w in
     let doubt : (bytes : List ℕ) → Staged bodies end (frame_of body) bytes → IsInDoubt bodies body end bytes = λ bytes s. staged_doubt bodies body end bytes fits s in
-    leaves_both (HasBodiesOrOneMore bodies body) m0 m1 m2 s0 s1 s2 (moments_first bodies body end n m0 m1 a s0 s1 images t now l)
+    leaves_both (HasBodiesOrOneMore bodies body) m0 m1 m2 s0 s1 s2
+    (leaves_more (HasBodies bodies) (HasBodiesOrOneMore bodies body) m0 m1 s0 s1 (λ image has. inl has) (moments_first bodies end n m0 m1 a s0 s1 images t now l))
     (leaves_torn (Staged bodies end (frame_of body)) (HasBodiesOrOneMore bodies body) end 1 m1 m2 b s1 s2 mid (λ bytes s. doubt_has bodies body end bytes (doubt bytes s))
     (λ old new s torn. doubt_has bodies body end new (torn_doubt bodies body end old new (doubt old s) torn)) behind then k)
 

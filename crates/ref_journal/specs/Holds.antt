@@ -1,13 +1,13 @@
 -- What a journal holds, and what its calls keep.
 use Rattle.std.specs.Prelude.{Bool, ◌≡◌, ◌⊎◌, ℕ, ◌≤◌, List, [], ◌∷◌, ◌++◌, true, false}
-use Rattle.std.specs.Prelude.{Option, None, Some}
+use Rattle.std.specs.Prelude.{Option, None, Some, Result, Ok, Err}
 use Rattle.std.specs.Option.{is_some}
 use Rattle.std.specs.Io.KnownBytes.{Keeps}
 use Rattle.rad_base.specs.Faults.{Rose}
 use Rattle.rad_outside.specs.Disks.{Within}
 use Rattle.ref_journal.specs.Frames.{IsBody, frame_of, gate_behind}
 use Rattle.ref_journal.specs.Images.{IsLeft}
-use Rattle.ref_journal.specs.Moments.{HasBodiesOrOneMore, LeavesOnly, Passes}
+use Rattle.ref_journal.specs.Moments.{HasBodies, HasBodiesOrOneMore, LeavesOnly, MayHave, Passes}
 use Rattle.ref_journal.specs.declared.faults.AppendFault.{AppendFault}
 use Rattle.ref_journal.specs.declared.faults.AppendFault.TheVariants.{Full, DiskFault}
 use Rattle.ref_journal.specs.declared.journal.Journal.{Journal}
@@ -74,6 +74,25 @@ LeavesFramedBody reads images old new frame fault =
     (bodies : List (List ℕ)) (body : List ℕ) → frame ≡ frame_of body → IsBody body
     → Holds reads images old bodies None → LeavesDoubt reads images bodies None body new fault
 
+-- what an image has where an append of this body was refused: the body only where it is in doubt
+abbrev pub RefusedMayHave : AppendFault → List (List ℕ) → List ℕ → List ℕ → Type 0
+RefusedMayHave Full bodies body image = HasBodies bodies image
+RefusedMayHave (DiskFault true) bodies body image = HasBodiesOrOneMore bodies body image
+RefusedMayHave (DiskFault false) bodies body image = HasBodies bodies image
+
+-- what an image has that a crash leaves during an append of this body which answers so, where none
+-- is in doubt
+abbrev pub AppendMayHave : {T : Type 0} → Result T AppendFault → List (List ℕ) → List ℕ → List ℕ
+    → Type 0
+AppendMayHave (Ok place) bodies body image = HasBodiesOrOneMore bodies body image
+AppendMayHave (Err fault) bodies body image = RefusedMayHave fault bodies body image
+
+-- the same where a body may be in doubt, for which the append mends first
+abbrev pub MendedMayHave : {T : Type 0} → Result T AppendFault → List ℕ → List (List ℕ)
+    → Option (List ℕ) → List ℕ → Type 0
+MendedMayHave result body bodies doubt image =
+    MayHave bodies doubt image ⊎ AppendMayHave result bodies body image
+
 -- a disk fault comes only where the count rose
 abbrev pub HasAppendCause : ℕ → ℕ → AppendFault → Type 0
 HasAppendCause before now Full = Unit {0}
@@ -106,13 +125,14 @@ CrashLeaves reads images moment since old new P =
     → LeavesOnlyBetween moment since old.disk new.disk (P bodies doubt)
 
 -- whatever bodies the old journal holds, with none in doubt, a crash at any moment between the two
--- leaves them with the body that a frame is of, or without it
-abbrev pub CrashLeavesFramedBody : {D : Type 0} → (D → Option (List ℕ)) → (D → List ℕ → Type 0)
-    → (D → ℕ) → (D → ℕ → List ℕ → Type 0) → Journal D → Journal D → List ℕ → Type 0
-CrashLeavesFramedBody reads images moment since old new frame =
+-- leaves what an append of the body that a frame is of may leave, which answers so
+abbrev pub CrashLeavesFramedBody : {D T : Type 0} → (D → Option (List ℕ)) → (D → List ℕ → Type 0)
+    → (D → ℕ) → (D → ℕ → List ℕ → Type 0) → Journal D → Journal D → List ℕ → Result T AppendFault
+    → Type 0
+CrashLeavesFramedBody reads images moment since old new frame result =
     (bodies : List (List ℕ)) (body : List ℕ) → frame ≡ frame_of body → IsBody body
     → Holds reads images old bodies None
-    → LeavesOnlyBetween moment since old.disk new.disk (HasBodiesOrOneMore bodies body)
+    → LeavesOnlyBetween moment since old.disk new.disk (AppendMayHave result bodies body)
 
 -- where the gate of one of the journal's bodies stands at this place, that body is read, and the
 -- place of the next gate is answered

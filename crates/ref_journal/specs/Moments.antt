@@ -26,12 +26,6 @@ abbrev pub MayHave : List (List ℕ) → Option (List ℕ) → List ℕ → Type
 MayHave bodies None image = HasBodies bodies image
 MayHave bodies (Some body) image = HasBodiesOrOneMore bodies body image
 
--- the image is a journal of these bodies, with the body in doubt or without it, or with this one
--- more
-abbrev pub MayHaveOrOneMore : List ℕ → List (List ℕ) → Option (List ℕ) → List ℕ → Type 0
-MayHaveOrOneMore body bodies doubt image =
-    MayHave bodies doubt image ⊎ HasBodiesOrOneMore bodies body image
-
 -- one of these images after a torn write of so many bytes at a place
 abbrev pub TornOf : ℕ → ℕ → (List ℕ → Type 0) → List ℕ → Type 0
 TornOf place n images image = (before : List ℕ) × images before × Torn place n before image

@@ -6,10 +6,11 @@ ghost use Rattle.std.specs.Prelude.{IsErrOf, IsNone, IsOk, OnErr, OnOk};
 ghost use Rattle.rad_outside.specs.Causes.{HasCause};
 ghost use Rattle.ref_journal.specs.Frames.{header, records};
 ghost use Rattle.ref_journal.specs.Gates.{StandsAt};
+ghost use Rattle.ref_journal.specs.Images.{IsUnmade};
 ghost use Rattle.ref_journal.specs.Makes.{HasMakeCause, HasNoMark, IsMade, IsUnmadeOrEmpty};
 ghost use Rattle.ref_journal.specs.Makes.{made_disk};
 ghost use Rattle.rad_base.specs.Faults.{Rose};
-ghost use Rattle.ref_journal.specs.Moments.{MayHave, MayHaveOrOneMore};
+ghost use Rattle.ref_journal.specs.Moments.{MayHave};
 
 use crate::make::{is_made, lay_header};
 use crate::record::{read_body, write_durably};
@@ -37,8 +38,8 @@ pub struct Journal<D> {
 impl<D: Disk> Journal<D> {
     ghost use Rattle.ref_journal.specs.Holds.{CrashLeaves, CrashLeavesFramedBody, HasAppendCause};
     ghost use Rattle.ref_journal.specs.Holds.{Holds, HoldsFramedBody, HoldsOneMore, LeavesBodies};
-    ghost use Rattle.ref_journal.specs.Holds.{LeavesFramedBody, LeavesOnlyBetween, OnlyReads};
-    ghost use Rattle.ref_journal.specs.Holds.{ReadsBodyAt, Tells};
+    ghost use Rattle.ref_journal.specs.Holds.{LeavesFramedBody, LeavesOnlyBetween, MendedMayHave};
+    ghost use Rattle.ref_journal.specs.Holds.{OnlyReads, ReadsBodyAt, Tells};
     ghost use Rattle.ref_journal.specs.Opens.{HasOpenCause, IsOpened, opened_disk};
 
     /// Opens the journal that stands on a disk, after a sync. It writes nothing, and takes no
@@ -63,9 +64,10 @@ impl<D: Disk> Journal<D> {
     }
 
     /// Makes a journal without a body on a disk that has none. `AlreadyMade`: the disk has 9 bytes
-    /// or more and its first is 1; it stays as it was. `DiskFault`: a call of the disk failed.
-    /// Either gives the disk back. Where every image had a first byte other than 1 before, a crash
-    /// at any moment leaves no journal or one without a body. It takes no memory.
+    /// or more and its first is 1. `DiskFault`: a call of the disk failed.
+    /// Either gives the disk back. A journal that is made stays as it was. Where every image had a
+    /// first byte other than 1 before, a crash at any moment leaves no journal or one without a
+    /// body. It takes no memory.
     pub fn make(mut disk: D) -> Result<Journal<D>, MakeFault<D>>
         ensures stays { D.loan (made_disk result) ≡ D.loan disk }
         ensures later { D.faults disk ≤ D.faults (made_disk result) }
@@ -74,6 +76,9 @@ impl<D: Disk> Journal<D> {
             (λ bytes. IsMade D.reads_as D.images bytes result) }
         ensures kept { (back : D) → result ≡ Err (MakeFault.AlreadyMade back)
             → OnlyReads D.loan D.faults D.reads_as D.images D.moment D.images_since disk back }
+        ensures old_stays { IfSome (D.reads_as disk) (λ bytes. (IsUnmade bytes → ⊥)
+            → OnlyReads D.loan D.faults D.reads_as D.images D.moment D.images_since
+            disk (made_disk result)) }
         ensures moments { Tells HasNoMark (D.reads_as disk) (D.images disk)
             → LeavesOnlyBetween D.moment D.images_since disk (made_disk result) IsUnmadeOrEmpty }
     {
@@ -94,7 +99,8 @@ impl<D: Disk> Journal<D> {
 
     /// Adds a body at the end, and answers the place where it stands. Where a body is in doubt it
     /// mends first. At Ok the body is on the disk for good, and a crash at any moment of the call
-    /// leaves the bodies with it or without it. `Full`: the journal would be longer than 2^40
+    /// leaves the bodies with it or without it; after a refusal that does not leave it in doubt, a
+    /// crash at no moment of the call leaves it. `Full`: the journal would be longer than 2^40
     /// bytes; no call of the disk was made. `DiskFault`: a call of the disk failed; it says whether
     /// this body is in doubt now. It takes no memory.
     pub fn append(&mut self, parcel: &Parcel) -> Result<u64, AppendFault>
@@ -113,7 +119,7 @@ impl<D: Disk> Journal<D> {
         ensures left { IfErr result
             (LeavesBodies D.reads_as D.images self.old self.new parcel.now) }
         ensures moments { CrashLeaves D.reads_as D.images D.moment D.images_since
-            self.old self.new (MayHaveOrOneMore parcel.now) }
+            self.old self.new (MendedMayHave result parcel.now) }
     {
         let frame = parcel.framed();
         let size = frame.len() as u64;
@@ -164,7 +170,7 @@ impl<D: Disk> Journal<D> {
         ensures left { IfErr result
             (LeavesFramedBody D.reads_as D.images self.old self.new frame.now) }
         ensures moments { CrashLeavesFramedBody D.reads_as D.images D.moment D.images_since
-            self.old self.new frame.now }
+            self.old self.new frame.now result }
     {
         write_durably(&mut self.disk, self.end + 1, frame)?;
         match write_durably(&mut self.disk, self.end, &[1]) {

@@ -1,5 +1,6 @@
 -- An offer is judged in one way, or refused whole.
-use Rattle.std.proofs.Common.{◌≡◌, ◌≤◌, length, Some, refl, sym, ap, subst, ◌∙◌, arith}
+use Rattle.std.proofs.Common.{◌≡◌, ◌≤◌, ℕ, length, Some, refl, sym, ap, subst, ◌∙◌, arith}
+use Rattle.std.specs.Prelude.{Result, Ok, Err}
 use Rattle.rad_base.specs.declared.names.Oid.{Oid}
 use Rattle.rad_base.specs.declared.offer.Offer.{Offer}
 use Rattle.rad_base.proofs.Options.{not_nothing, one_value}
@@ -8,8 +9,11 @@ use Rattle.commit_graph.specs.Histories.{InHistory}
 use Rattle.commit_graph.proofs.HistoryWalks.{history_itself}
 use Rattle.keyring.specs.Contents.{Contents}
 use Rattle.identity_doc.specs.declared.doc.Doc.{Doc}
+use Rattle.identity_doc.specs.declared.id_fault.IdFault.{IdFault as Fault}
 use Rattle.identity_doc.specs.IdentityChains.{HasIdentity}
+use Rattle.identity_doc.specs.IdentityFaults.{IsGet, IsIdFault}
 use Rattle.identity_doc.proofs.NotRefused.{not_refused}
+use Rattle.identity_doc.proofs.OneFault.{one_fault}
 use Rattle.identity_doc.proofs.OneIdentity.{one_identity}
 use Rattle.repo_slice.specs.declared.scope.Scope.{Scope}
 use Rattle.repo_slice.specs.declared.state.State.{State}
@@ -19,7 +23,7 @@ use Rattle.repo_slice.specs.declared.verdict.Judged.{Judged}
 use Rattle.repo_entries.specs.declared.whole.Whole.{Whole}
 use Rattle.repo_entries.specs.declared.whole.Whole.TheVariants.{IdForked, IdFault, TooFewDelegates}
 use Rattle.repo_slice.specs.Outcomes.{AreOutcomes, advanced_in}
-use Rattle.repo_slice.specs.Verdicts.{AreVerdicts, IsIdOutcome, IsJudged, IsNewId, IsRefusedWhole, case_of, have_next}
+use Rattle.repo_slice.specs.Verdicts.{AreVerdicts, IsIdForked, IsIdOutcome, IsJudged, IsNewId, IsRefusedWhole, IsTooFew, IsVerdict, case_of, have_next}
 use Rattle.repo_slice.proofs.OneOutcome.{one_list}
 
 module _ (m : ObjectMap) (keyring : Contents) (state : State) where
@@ -84,3 +88,45 @@ module _ (m : ObjectMap) (keyring : Contents) (state : State) where
         let one = one_verdicts a k.judged h.0 k.doc h.1 k.are in
         let enough : k.doc.threshold ≤ have_next state k.judged k.doc = subst (λ (d : Doc). d.threshold ≤ have_next state k.judged d) one.1 (subst (λ (j : Judged). h.0.threshold ≤ have_next state j h.0) one.0 h.2) in
         omega (arith, enough, k.few, k.counted, k.threshold)
+
+    -- too few delegates are one count and one threshold
+    one_few : (a b c d : ℕ) → IsTooFew m keyring state offer scope a b → IsTooFew m keyring state offer scope c d → (a ≡ c) × (b ≡ d)
+    one_few a b c d h k =
+        let one = one_verdicts h.judged k.judged h.doc k.doc h.are k.are in (
+          h.counted ∙ ap (λ (j : Judged). have_next state j h.doc) one.0 ∙ ap (λ (x : Doc). have_next state k.judged x) one.1 ∙ sym k.counted,
+          h.threshold ∙ ap (λ (x : Doc). x.threshold) one.1 ∙ sym k.threshold,
+        )
+
+    -- too few delegates or an identity that is refused
+    few_or_forked : (a b : ℕ) → IsTooFew m keyring state offer scope a b → IsIdForked m keyring state offer.id → ⊥
+    few_or_forked a b h k = k.apart (new_follows offer.id k.stands h.judged.id_outcome h.judged.next_id h.are.identity k.new k.is)
+
+    few_or_fault : (a b : ℕ) (why : Fault) → IsTooFew m keyring state offer scope a b → IsNewId m state offer.id
+        → IsIdFault m keyring state.rid offer.id why → (IsGet why → ⊥) → ⊥
+    few_or_fault a b why h new fault bars =
+        let next = new_next offer.id h.judged.id_outcome h.judged.next_id h.are.identity new in
+        bars (not_refused m keyring state.rid offer.id h.doc why (subst (λ (o : Oid). HasIdentity m keyring state.rid o h.doc) next h.are.document) fault)
+
+    forked_or_fault : (why : Fault) → IsIdForked m keyring state offer.id → IsIdFault m keyring state.rid offer.id why → (IsGet why → ⊥) → ⊥
+    forked_or_fault why h fault bars = bars (not_refused m keyring state.rid offer.id h.doc why h.identity fault)
+
+    -- an offer is refused whole for one reason
+    pub one_refusal : (a b : Whole) → IsRefusedWhole m keyring state offer scope a → IsRefusedWhole m keyring state offer scope b → a ≡ b
+    one_refusal IdForked IdForked h k = refl
+    one_refusal IdForked (IdFault why) h k = absurd (forked_or_fault why h k.1 k.2)
+    one_refusal IdForked (TooFewDelegates have need) h k = absurd (few_or_forked have need k h)
+    one_refusal (IdFault why) IdForked h k = absurd (forked_or_fault why k h.1 h.2)
+    one_refusal (IdFault why) (IdFault other) h k = ap (λ (x : Fault). IdFault x) (one_fault m keyring state.rid offer.id why other h.1 k.1 h.2 k.2)
+    one_refusal (IdFault why) (TooFewDelegates have need) h k = absurd (few_or_fault have need why k h.0 h.1 h.2)
+    one_refusal (TooFewDelegates have need) IdForked h k = absurd (few_or_forked have need h k)
+    one_refusal (TooFewDelegates have need) (IdFault why) h k = absurd (few_or_fault have need why h k.0 k.1 k.2)
+    one_refusal (TooFewDelegates have need) (TooFewDelegates other least) h k =
+        let one = one_few have need other least h k in
+        ap (λ (x : ℕ). TooFewDelegates x need) one.0 ∙ ap (λ (x : ℕ). TooFewDelegates other x) one.1
+
+    -- an offer has one verdict
+    pub one_verdict : (a b : Result Judged Whole) → IsVerdict m keyring state offer scope a → IsVerdict m keyring state offer scope b → a ≡ b
+    one_verdict (Ok a) (Ok b) h k = ap (λ (x : Judged). Ok x) (one_judged a b h k)
+    one_verdict (Ok a) (Err b) h k = absurd (judged_or_refused a b h k)
+    one_verdict (Err a) (Ok b) h k = absurd (judged_or_refused b a k h)
+    one_verdict (Err a) (Err b) h k = ap (λ (x : Whole). Err x) (one_refusal a b h k)

@@ -20,7 +20,7 @@ a_disk_is_not_full e = cc e
 
 -- memory was refused, and nothing was made
 pub stops_for_memory : (rid : Rid) (old new : MemKeep) (item : Item) (more : List Item) → new.made.items ≡ old.made.items
-    → StopsIn (λ (keep : MemKeep) (before : List Item). before ≡ items_of keep) rid 1 8 old new (item ∷ more) fault.NoMemory
+    → StopsIn (λ (keep : MemKeep) (origin : Unit {0}) (before : List Item). before ≡ items_of keep) rid 1 8 old new (item ∷ more) fault.NoMemory
 stops_for_memory rid old new item more same = (
   [],
   record {
@@ -32,12 +32,12 @@ stops_for_memory rid old new item more same = (
     full = λ e. absurd (no_memory_is_not_full e);
     history_is = refl;
   },
-  λ before h. append-nil before ∙ h ∙ ap (λ (made : List Made). map item_made made) (sym same),
+  λ origin before h. append-nil before ∙ h ∙ ap (λ (made : List Made). map item_made made) (sym same),
 )
 
 -- the call was missed
 pub stops_missed : (rid : Rid) (old new : MemKeep) (item : Item) (more : List Item) → new.made.items ≡ old.made.items ++ made.Missed rid ∷ []
-    → StopsIn (λ (keep : MemKeep) (before : List Item). before ≡ items_of keep) rid 1 8 old new (item ∷ more) fault.DiskFault
+    → StopsIn (λ (keep : MemKeep) (origin : Unit {0}) (before : List Item). before ≡ items_of keep) rid 1 8 old new (item ∷ more) fault.DiskFault
 stops_missed rid old new item more one = (
   missed (Some rid) Nothing 1 ∷ [],
   record {
@@ -49,7 +49,7 @@ stops_missed rid old new item more one = (
     full = λ e. absurd (a_disk_is_not_full e);
     history_is = refl;
   },
-  λ before h.
+  λ origin before h.
       ap (λ (l : List Item). l ++ missed (Some rid) Nothing 1 ∷ []) h
       ∙ sym (map-append item_made old.made.items (made.Missed rid ∷ []))
       ∙ ap (λ (made : List Made). map item_made made) (sym one),

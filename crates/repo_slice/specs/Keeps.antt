@@ -78,9 +78,10 @@ abbrev pub LacksRoom : ℕ → List Item → Type 0
 LacksRoom end [] = ⊥
 LacksRoom end (item ∷ more) = end + 10 + size_of item ≤ 2 ^ 40 → ⊥
 
--- these entries were made behind those from before, whatever these were
-abbrev pub Makes : {K : Type 0} → (K → List Item → Type 0) → K → K → List Item → Type 0
-Makes made old new entries = (before : List Item) → made old before → made new (before ++ entries)
+-- these entries were made behind those from before, whatever these were and from where on they are told
+abbrev pub Makes : {K O : Type 0} → (K → O → List Item → Type 0) → K → K → List Item → Type 0
+Makes {K} {O} made old new entries =
+    (origin : O) (before : List Item) → made old origin before → made new origin (before ++ entries)
 
 -- Some of these entries were made in order. At the next one a call was refused: it may be in doubt, and after `Full`
 -- the journal has no room for it. A fault of the disk adds one missed entry.
@@ -94,7 +95,7 @@ pub record IsStopped (rid : Rid) (caller end : ℕ) (entries : List Item) (why :
   pub history_is : history ≡ done ++ missed_by rid caller left why
 
 -- what was made of these entries up to a refusal
-abbrev pub StopsIn : {K : Type 0} → (K → List Item → Type 0) → Rid → ℕ → ℕ → K → K → List Item → KeepFault → Type 0
+abbrev pub StopsIn : {K O : Type 0} → (K → O → List Item → Type 0) → Rid → ℕ → ℕ → K → K → List Item → KeepFault → Type 0
 StopsIn made rid caller end old new entries why =
     (history : List Item) × IsStopped rid caller end entries why history × Makes made old new history
 
@@ -156,7 +157,7 @@ HadRoom end (Ok judged) = end < 2 ^ 40
 HadRoom end (Err whole) = Unit {0}
 
 -- an install was refused before it had an entry to write, or at that of such a verdict
-abbrev pub StopsAtVerdict : {K : Type 0} → (K → List Item → Type 0) → Rid → ℕ → ℕ → K → K
+abbrev pub StopsAtVerdict : {K O : Type 0} → (K → O → List Item → Type 0) → Rid → ℕ → ℕ → K → K
     → (Result Judged Whole → Type 0) → KeepFault → Type 0
 StopsAtVerdict made rid caller end old new IsOne why =
     StopsIn made rid caller end old new [] why

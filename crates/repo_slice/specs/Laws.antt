@@ -1,5 +1,5 @@
 -- The laws of good slices and of verdicts.
-use Rattle.std.specs.Prelude.{◌≡◌, Some, Contains}
+use Rattle.std.specs.Prelude.{◌≡◌, Some, Contains, Result}
 use Rattle.rad_base.specs.declared.names.Nid.{Nid}
 use Rattle.rad_base.specs.declared.names.Oid.{Oid}
 use Rattle.rad_base.specs.declared.offer.Offer.{Offer}
@@ -11,7 +11,7 @@ use Rattle.repo_slice.specs.declared.scope.Scope.{Scope}
 use Rattle.repo_slice.specs.declared.state.State.{State}
 use Rattle.repo_slice.specs.declared.verdict.Judged.{Judged}
 use Rattle.repo_slice.specs.Good.{Advances, IsGood}
-use Rattle.repo_slice.specs.Verdicts.{Allows, IsJudged, IsNextState, IsRefusedWhole}
+use Rattle.repo_slice.specs.Verdicts.{Allows, IsJudged, IsNextState, IsRefusedWhole, IsVerdict}
 
 -- from a good slice the next one is good
 abbrev pub NextIsGood : Type 0
@@ -34,6 +34,11 @@ OneJudging = (objects : ObjectMap) (keyring : Contents) (state : State) (offer :
 abbrev pub JudgedIsNotRefused : Type 0
 JudgedIsNotRefused = (objects : ObjectMap) (keyring : Contents) (state : State) (offer : Offer) (scope : Scope) (judged : Judged) (why : Whole)
     → IsJudged objects keyring state offer scope judged → IsRefusedWhole objects keyring state offer scope why → ⊥
+
+-- an offer has one verdict
+abbrev pub OneVerdict : Type 0
+OneVerdict = (objects : ObjectMap) (keyring : Contents) (state : State) (offer : Offer) (scope : Scope) (a b : Result Judged Whole)
+    → IsVerdict objects keyring state offer scope a → IsVerdict objects keyring state offer scope b → a ≡ b
 
 -- what was judged under some scope is allowed again with every scope
 abbrev pub JudgedIsAllowed : Type 0

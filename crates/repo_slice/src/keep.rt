@@ -22,8 +22,12 @@ use rad_base::{Nids, NoMemory, Offer, Oids, Rid};
 /// A `DiskFault` adds one missed entry of the repository; nothing else that is refused adds an
 /// entry. Claims are not counted among the entries.
 pub trait Keep {
-    /// The entries that its calls made, missed ones among them, may be these.
-    ghost made: { Self → List Item → Type 0 };
+    /// From where on its entries are told.
+    ghost Origin: { Type 0 };
+
+    /// From there on its entries, and those that its calls made, missed ones among them, may be
+    /// these.
+    ghost made: { Self → Origin → List Item → Type 0 };
 
     /// What it has of a repository.
     ghost held: { Self → Rid → Held };

@@ -5,6 +5,7 @@ ghost use Rattle.rad_base.specs.declared.names.Oid.{Oid};
 ghost use Rattle.keyring.specs.Contents.{Contents};
 ghost use Rattle.repo_slice.specs.Good.{IsGood};
 ghost use Rattle.repo_slice.specs.Laws.{JudgedIsAllowed, JudgedIsNotRefused, NextIsGood, OneJudging};
+ghost use Rattle.repo_slice.specs.Laws.{OneVerdict};
 ghost use Rattle.repo_slice.specs.Laws.{ReplacedAdvance};
 ghost use Rattle.commit_graph.specs.Objects.{Grows, ObjectMap};
 ghost use Rattle.repo_slice.specs.Outcomes.{AreOutcomes, Case};
@@ -32,10 +33,11 @@ pub fn one_list_of_outcomes()
         → AreOutcomes objects c count pairs b → a ≡ b }
 {}
 
-/// An offer is judged in one way, and is then not refused whole.
+/// An offer is judged in one way, and is then not refused whole. It has one verdict.
 pub fn one_verdict()
     ensures one { OneJudging }
     ensures never_both { JudgedIsNotRefused }
+    ensures same { OneVerdict }
 {}
 
 /// What was judged under some scope and not refused whole is allowed again with every scope, as the

@@ -75,7 +75,9 @@ impl Keep for MemKeep {
     ghost use Rattle.std.specs.Prelude.{◌≡◌};
     ghost use Rattle.repo_slice.specs.MemKeeps.{constants_of, items_of, told_of};
 
-    ghost made = { λ keep before. before ≡ items_of keep };
+    ghost Origin = { Unit {0} };
+
+    ghost made = { λ keep origin before. before ≡ items_of keep };
 
     ghost held = { λ _ rid. told_of rid };
 

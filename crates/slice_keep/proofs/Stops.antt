@@ -22,12 +22,12 @@ nothing_left [] = refl
 nothing_left (item ∷ more) = inl refl
 
 -- the relation of a keep to its entries
-abbrev pub has_made : Kept → List Item → Type 0
-has_made kept before = before ≡ noted_items kept
+abbrev pub has_made : Kept → Unit {0} → List Item → Type 0
+has_made kept origin before = before ≡ noted_items kept
 
 -- one more was made
 pub makes_one : (old new : Kept) (one : Made) → new.made ≡ old.made ++ one ∷ [] → Makes has_made old new (item_noted one ∷ [])
-makes_one old new one grown = λ before h.
+makes_one old new one grown = λ origin before h.
     ap (λ (l : List Item). l ++ item_noted one ∷ []) h ∙ sym (map-append item_noted old.made (one ∷ [])) ∙ ap (λ (l : List Made). map item_noted l) (sym grown)
 
 -- memory was refused, and nothing was made
@@ -43,7 +43,7 @@ stops_for_memory rid old new entries same = (
     full = λ e. absurd (no_memory_is_not_full e);
     history_is = refl;
   },
-  λ before h. append-nil before ∙ h ∙ ap (λ (l : List Made). map item_noted l) (sym same),
+  λ origin before h. append-nil before ∙ h ∙ ap (λ (l : List Made). map item_noted l) (sym same),
 )
 
 -- the call was missed

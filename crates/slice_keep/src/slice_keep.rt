@@ -102,7 +102,9 @@ impl Keep for SliceKeep {
     ghost use Rattle.std.specs.Prelude.{◌≡◌};
     ghost use Rattle.slice_keep.specs.SliceKeeps.{keep_constants, held_of, noted_items};
 
-    ghost made = { λ keep before. before ≡ noted_items keep };
+    ghost Origin = { Unit {0} };
+
+    ghost made = { λ keep origin before. before ≡ noted_items keep };
 
     ghost held = { λ keep _. held_of keep };
 

@@ -1,36 +1,60 @@
 -- What the calls of a store add to its entries.
-use Rattle.std.proofs.Common.{◌≡◌, ◌⊎◌, ℕ, ◌+◌, ◌*◌, ◌≤◌, ◌<◌, ◌^◌, Bool, List, [], ◌∷◌, ◌++◌, map, length, Option, None, Some, Result, Ok, Err, inl, inr, refl, sym, ap, subst, ◌∙◌, arith}
+use Rattle.std.proofs.Common.{◌≡◌, ◌⊎◌, ℕ, List, [], ◌∷◌, ◌++◌, map, Option, None, Some, inl, inr, refl, sym, ap, subst, ◌∙◌, append_assoc}
 use Rattle.std.specs.List.{AllByRecursion}
 use Rattle.std.proofs.lemmas.List.{append-nil, map-append}
 use Rattle.rad_base.specs.declared.names.Rid.{Rid}
-use Rattle.ref_journal.specs.Holds.{Holds}
+use Rattle.ref_journal.specs.Holds.{Holds, LeavesOnlyBetween}
+use Rattle.ref_journal.specs.Images.{IsLeft}
+use Rattle.ref_journal.specs.Moments.{MayHave}
+use Rattle.ref_journal.proofs.Entering.{left_has}
+use Rattle.ref_journal.proofs.Lasting.{leaves_both, leaves_more, leaves_none}
 use Rattle.ref_journal.specs.declared.journal.Journal.{Journal}
-use Rattle.repo_entries.specs.Items.{Item, claim, entry_of, install, left_of, missed, put, refused}
+use Rattle.repo_entries.specs.Items.{Item, entry_of, left_of, missed}
 use Rattle.repo_entries.specs.declared.entry.Entry.{Entry}
 use Rattle.repo_entries.specs.declared.entry.Entry.TheVariants as entries
 use Rattle.repo_entries.specs.declared.entry.Left.{Left}
 use Rattle.repo_entries.specs.declared.entry.Left.TheVariants as lefts
-use Rattle.repo_slice.specs.Keeps.{IsStopped, LacksRoom, Makes, MayLeave}
+use Rattle.repo_slice.specs.Keeps.{LacksRoom, MayLeave}
 use Rattle.repo_slice.specs.declared.keep_fault.KeepFault.{KeepFault}
 use Rattle.repo_slice.specs.declared.keep_fault.KeepFault.TheVariants as fault
 use Rattle.keyring.specs.Contents.{Contents}
 use Rattle.legal_history.specs.Cores.{Core, Event, doubts, mends, misses}
 use Rattle.legal_history.specs.Durable.{durable_part}
-use Rattle.legal_history.specs.Replays.{Standing, after_items, claimant, replay}
+use Rattle.legal_history.specs.Replays.{Standing, after_items}
 use Rattle.object_store.specs.Bodies.{bodies_of, body_in_doubt}
-use Rattle.object_store.specs.Held.{claimant_of, held_at, held_in, held_standing}
+use Rattle.object_store.specs.Held.{held_at, held_standing}
 use Rattle.object_store.specs.Shown.{Concerns}
-use Rattle.object_store.specs.Stores.{IsRefusedCall, Moves, StandsFor, StandsForSome}
+use Rattle.object_store.specs.Stores.{IsLeftDuring, IsOnDisk, IsRefusedCall, Moves, StandsFor, StandsForSome}
 use Rattle.object_store.specs.declared.store.Store.{Store}
 use Rattle.object_store.proofs.Holding.{claimant_is, held_is}
 use Rattle.store_keep.specs.Calls.{Adds, Stops}
 use Rattle.store_keep.specs.Kept.{may_call}
-use Rattle.store_keep.specs.Made.{IsDoubtKnown, IsMade, no_claims}
+use Rattle.store_keep.specs.Made.{IsDoubtKnown, IsImageOf, IsMade, IsPastImage, ReopensLegal, Start, no_claims}
 use Rattle.store_keep.proofs.Claimless.{same_last}
-use Rattle.store_keep.proofs.Going.{Goes, IsOf, added_by, goes_none, runs_go}
+use Rattle.store_keep.proofs.Going.{Goes, IsOf, added_by, adds_of, goes_none, runs_go}
+use Rattle.store_keep.proofs.Imaging.{core_image, core_legal}
+use Rattle.legal_history.specs.Histories.{Legal}
 
-module _ {D : Type 0} (reads : D → Option (List ℕ)) (images : D → List ℕ → Type 0) where
+-- what two runs of events add
+added_along : (xs ys : List Event) → added_by (xs ++ ys) ≡ added_by xs ++ added_by ys
+added_along [] ys = refl
+added_along (event ∷ xs) ys = ap (λ (l : List Item). adds_of event ++ l) (added_along xs ys) ∙ sym (append_assoc (adds_of event) (added_by xs) (added_by ys))
+
+each_front : {X : Type 0} (P : X → Type 0) (xs ys : List X) → AllByRecursion P (xs ++ ys) → AllByRecursion P xs
+each_front P [] ys each = tt
+each_front P (x ∷ xs) ys each = (each.0, each_front P xs ys each.1)
+
+module _ {D : Type 0} (reads : D → Option (List ℕ)) (images : D → List ℕ → Type 0) (moment : D → ℕ) (since : D → ℕ → List ℕ → Type 0) where
   module _ (rid : Rid) (caller : ℕ) (old new : Store D) (k : new.keyring ≡ old.keyring) where
+    -- an image of a stop in a move from a core on, of some first of these entries
+    pub record IsPassed (core : Core) (added : List Item) (image : List ℕ) : Type 0 where
+      pub now : Core
+      pub done : List Item
+      pub rest : List Item
+      pub all : added ≡ done ++ rest
+      pub goes : Goes old.keyring rid caller core now done
+      pub has : MayHave (bodies_of (durable_part now.items)) (body_in_doubt now.doubt) image
+
     -- a move from a core on
     pub record Went (core : Core) (added : List Item) : Type 0 where
       pub next : Core
@@ -38,33 +62,85 @@ module _ {D : Type 0} (reads : D → Option (List ℕ)) (images : D → List ℕ
       pub stands : StandsFor new next.items
       pub disk : Holds reads images old.journal (bodies_of (durable_part core.items)) (body_in_doubt core.doubt)
           → Holds reads images new.journal (bodies_of (durable_part next.items)) (body_in_doubt next.doubt)
+      pub time : IsOnDisk reads images old core → LeavesOnlyBetween moment since old.journal.disk new.journal.disk (IsPassed core added)
 
-    abbrev pub went : (core : Core) (events : List Event) → AllByRecursion (IsOf rid caller) events → StandsFor old core.items → Moves reads images old new core events
+    -- a stop among events is one among the entries that they add
+    pub passed : (core : Core) (events : List Event) → AllByRecursion (IsOf rid caller) events → Legal old.keyring core.items → (image : List ℕ)
+        → IsLeftDuring old.keyring core events image → IsPassed core (added_by events) image
+    passed core events is legal image l = record {
+      now = l.now;
+      done = added_by l.past;
+      rest = added_by l.rest;
+      all = ap added_by l.all ∙ added_along l.past l.rest;
+      goes = runs_go old.keyring rid caller core l.past l.now
+          (each_front (IsOf rid caller) l.past l.rest (subst (AllByRecursion (IsOf rid caller)) l.all is)) legal l.runs;
+      has = l.has;
+    }
+
+    abbrev pub went : (core : Core) (events : List Event) → AllByRecursion (IsOf rid caller) events → StandsFor old core.items → Moves reads images moment since old new core events
         → Went core (added_by events)
     went core events is s m = record {
       next = m.next;
       goes = runs_go old.keyring rid caller core events m.next is s.legal m.runs;
       stands = m.stands;
       disk = m.disk;
+      time = λ h.
+          leaves_more (IsLeftDuring old.keyring core events) (IsPassed core (added_by events)) (moment old.journal.disk) (moment new.journal.disk) (since old.journal.disk)
+          (since new.journal.disk) (passed core events is s.legal) (m.time h);
     }
 
+    -- an image of before is one of the first of more entries
+    longer : (first before added : List Item) (image : List ℕ) → IsPastImage old.keyring first before image → IsPastImage new.keyring first (before ++ added) image
+    longer first before added image p = record {
+      done = p.done;
+      rest = p.rest ++ added;
+      all = ap (λ (l : List Item). l ++ added) p.all ∙ append_assoc (first ++ p.done) p.rest added;
+      has = p.has;
+      legal = subst (λ (keyring : Contents). ReopensLegal keyring image) (sym k) p.legal;
+    }
+
+    -- an image of a stop is one of the first of the entries
+    passed_image : (first more before added : List Item) (core : Core) → before ≡ no_claims core.items → before ≡ first ++ more → IsDoubtKnown old.keyring core → (image : List ℕ)
+        → IsPassed core added image → IsPastImage new.keyring first (before ++ added) image
+    passed_image first more before added core is all known image p =
+        let front : no_claims p.now.items ≡ first ++ (more ++ p.done) =
+        p.goes.entries ∙ ap (λ (l : List Item). l ++ p.done) (sym is ∙ all) ∙ append_assoc first more p.done in
+        record {
+          done = more ++ p.done;
+          rest = p.rest;
+          all = ap (λ (l : List Item). before ++ l) p.all ∙ sym (append_assoc before p.done p.rest)
+              ∙ ap (λ (l : List Item). (l ++ p.done) ++ p.rest) all ∙ ap (λ (l : List Item). l ++ p.rest) (append_assoc first more p.done);
+          has = subst (λ (l : List Item). IsImageOf l image) front (core_image old.keyring p.now (p.goes.doubt known) p.goes.legal image p.has);
+          legal = subst (λ (keyring : Contents). ReopensLegal keyring image) (sym k) (core_legal old.keyring p.now (p.goes.doubt known) p.goes.legal image p.has);
+        }
+
     -- what was made before is made, with these
-    went_made : (added before : List Item) → (h : IsMade reads images old before) → Went h.core added → IsMade reads images new (before ++ added)
-    went_made added before h w = record {
+    went_made : (added : List Item) (start : Start D) (before : List Item) → (h : IsMade reads images moment since old start before) → Went h.core added
+        → IsMade reads images moment since new start (before ++ added)
+    went_made added start before h w = record {
       core = w.next;
       entries = ap (λ (l : List Item). l ++ added) h.entries ∙ sym w.goes.entries;
       stands = w.stands;
       disk = w.disk h.disk;
       doubt = subst (λ (keyring : Contents). IsDoubtKnown keyring w.next) (sym k) (w.goes.doubt h.doubt);
+      added = h.added ++ added;
+      all = ap (λ (l : List Item). l ++ added) h.all ∙ append_assoc start.items h.added added;
+      time =
+          let Past = IsPastImage new.keyring start.items (before ++ added) in
+          leaves_both Past (moment start.disk) (moment old.journal.disk) (moment new.journal.disk) (since start.disk) (since old.journal.disk) (since new.journal.disk)
+          (leaves_more (IsPastImage old.keyring start.items before) Past (moment start.disk) (moment old.journal.disk) (since start.disk) (since old.journal.disk)
+          (longer start.items before added) h.time)
+          (leaves_more (IsPassed h.core added) Past (moment old.journal.disk) (moment new.journal.disk) (since old.journal.disk) (since new.journal.disk)
+          (passed_image start.items h.added before added h.core h.entries h.all h.doubt) (w.time h.disk));
     }
 
     -- from every core on
-    pub adds_by : (added : List Item) → StandsForSome old → ((core : Core) → StandsFor old core.items → Went core added) → Adds reads images rid caller old new added
+    pub adds_by : (added : List Item) → StandsForSome old → ((core : Core) → StandsFor old core.items → Went core added) → Adds reads images moment since rid caller old new added
     adds_by added stands each =
         let first = each (record { items = stands.0; doubt = None }) stands.1 in
         record {
           keyring = k;
-          made = λ before h. went_made added before h (each h.core h.stands);
+          made = λ start before h. went_made added start before h (each h.core h.stands);
           callable = λ q.
               ap (λ (n : ℕ). may_call caller n) (claimant_is new q first.next.items first.stands) ∙ first.goes.callable q
               ∙ sym (ap (λ (n : ℕ). may_call caller n) (claimant_is old q stands.0 stands.1));
@@ -77,16 +153,29 @@ module _ {D : Type 0} (reads : D → Option (List ℕ)) (images : D → List ℕ
 
     -- events of every core
     pub adds_moved : (events : List Event) → AllByRecursion (IsOf rid caller) events → StandsForSome old
-        → ((core : Core) → StandsFor old core.items → Moves reads images old new core events) → Adds reads images rid caller old new (added_by events)
+        → ((core : Core) → StandsFor old core.items → Moves reads images moment since old new core events) → Adds reads images moment since rid caller old new (added_by events)
     adds_moved events is stands each = adds_by (added_by events) stands (λ core s. went core events is s (each core s))
 
     -- a store that stays stands for the same
-    pub adds_still : new.journal ≡ old.journal → StandsForSome old → ((items : List Item) → StandsFor old items → StandsFor new items) → Adds reads images rid caller old new []
-    adds_still j stands keeps = adds_by [] stands (λ core s. record {
+    pub adds_still : ((disk : D) (image : List ℕ) → since disk (moment disk) image → images disk image) → new.journal ≡ old.journal → StandsForSome old → ((items : List Item) → StandsFor old items → StandsFor new items) → Adds reads images moment since rid caller old new []
+    adds_still now j stands keeps = adds_by [] stands (λ core s. record {
       next = core;
       goes = goes_none old.keyring rid caller core s.legal;
       stands = keeps core.items s;
       disk = λ h. subst (λ (x : Journal D). Holds reads images x (bodies_of (durable_part core.items)) (body_in_doubt core.doubt)) (sym j) h;
+      time = λ h.
+          let bodies = bodies_of (durable_part core.items) in
+          let doubt = body_in_doubt core.doubt in
+          let disk = old.journal.disk in
+          subst (λ (x : Journal D). LeavesOnlyBetween moment since disk x.disk (IsPassed core [])) (sym j)
+          (leaves_none (IsLeft bodies doubt old.journal.end) (IsPassed core []) (moment disk) (reads disk) (since disk) (images disk) (λ image left. record {
+            now = core;
+            done = [];
+            rest = [];
+            all = refl;
+            goes = goes_none old.keyring rid caller core s.legal;
+            has = left_has bodies doubt old.journal.end image left;
+          }) h.tells (now disk));
     })
 
     -- ---- a call that met a fault of the disk
@@ -96,20 +185,20 @@ module _ {D : Type 0} (reads : D → Option (List ℕ)) (images : D → List ℕ
       pub went : Went core (missed (Some rid) left caller ∷ [])
       pub last : went.next.items ≡ core.items ++ missed (Some rid) left caller ∷ []
 
-    missed_doubt : (core : Core) (item : Item) → Concerns rid item → StandsFor old core.items → Moves reads images old new core (mends ∷ doubts (Some rid) caller item ∷ [])
+    missed_doubt : (core : Core) (item : Item) → Concerns rid item → StandsFor old core.items → Moves reads images moment since old new core (mends ∷ doubts (Some rid) caller item ∷ [])
         → Missed core (left_of item)
     missed_doubt core item is s m = record {
       went = went core (mends ∷ doubts (Some rid) caller item ∷ []) (tt, ((refl, is), tt)) s m;
       last = ap (λ (c : Core). c.items) (m.runs.2.2 ∙ m.runs.2.1.3) ∙ ap (λ (c : Core). c.items ++ missed (Some rid) (left_of item) caller ∷ []) m.runs.1;
     }
 
-    missed_mended : (core : Core) → StandsFor old core.items → Moves reads images old new core (mends ∷ misses (Some rid) caller ∷ []) → Missed core lefts.Nothing
+    missed_mended : (core : Core) → StandsFor old core.items → Moves reads images moment since old new core (mends ∷ misses (Some rid) caller ∷ []) → Missed core lefts.Nothing
     missed_mended core s m = record {
       went = went core (mends ∷ misses (Some rid) caller ∷ []) (tt, (tt, tt)) s m;
       last = ap (λ (c : Core). c.items) (m.runs.2.2 ∙ m.runs.2.1) ∙ ap (λ (c : Core). c.items ++ missed (Some rid) lefts.Nothing caller ∷ []) m.runs.1;
     }
 
-    missed_only : (core : Core) → StandsFor old core.items → Moves reads images old new core (misses (Some rid) caller ∷ []) → Missed core lefts.Nothing
+    missed_only : (core : Core) → StandsFor old core.items → Moves reads images moment since old new core (misses (Some rid) caller ∷ []) → Missed core lefts.Nothing
     missed_only core s m = record {
       went = went core (misses (Some rid) caller ∷ []) (tt, tt) s m;
       last = ap (λ (c : Core). c.items) (m.runs.2 ∙ m.runs.1);
@@ -141,14 +230,14 @@ module _ {D : Type 0} (reads : D → Option (List ℕ)) (images : D → List ℕ
 
     -- a refused call, from a core on
     pub missed_by : (IsOne : Item → Type 0) (core : Core) (item : Item) → Concerns rid item → IsOne item → StandsFor old core.items
-        → IsRefusedCall reads images old new core rid caller item fault.DiskFault → (left : Left) × Names IsOne left × Missed core left
+        → IsRefusedCall reads images moment since old new core rid caller item fault.DiskFault → (left : Left) × Names IsOne left × Missed core left
     missed_by IsOne core item is one s (inl m) = (left_of item, inr (item, one, refl), missed_doubt core item is s m)
     missed_by IsOne core item is one s (inr (inl m)) = (lefts.Nothing, inl refl, missed_mended core s m)
     missed_by IsOne core item is one s (inr (inr m)) = (lefts.Nothing, inl refl, missed_only core s m)
 
     -- from every core on it left the same
     pub adds_missed : (IsOne : Item → Type 0) → StandsForSome old → ((core : Core) → StandsFor old core.items → (left : Left) × Names IsOne left × Missed core left)
-        → (left : Left) × Names IsOne left × Adds reads images rid caller old new (missed (Some rid) left caller ∷ [])
+        → (left : Left) × Names IsOne left × Adds reads images moment since rid caller old new (missed (Some rid) left caller ∷ [])
     adds_missed IsOne stands each =
         let first = each (record { items = stands.0; doubt = None }) stands.1 in (
           first.0,
@@ -162,16 +251,16 @@ module _ {D : Type 0} (reads : D → Option (List ℕ)) (images : D → List ℕ
   -- ---- a call behind a claim
 
   -- what a repository has where nothing was added
-  pub nothing_held : (rid : Rid) (caller : ℕ) (old new : Store D) → StandsForSome old → Adds reads images rid caller old new [] → held_at new rid ≡ held_at old rid
+  pub nothing_held : (rid : Rid) (caller : ℕ) (old new : Store D) → StandsForSome old → Adds reads images moment since rid caller old new [] → held_at new rid ≡ held_at old rid
   nothing_held rid caller old new stands a =
       let next = a.replays stands.0 stands.1 in
       held_is new rid next.0 next.1 ∙ ap (held_standing rid) next.2 ∙ sym (held_is old rid stands.0 stands.1)
 
-  pub adds_behind : (rid : Rid) (caller : ℕ) (old mid new : Store D) (added : List Item) → Adds reads images rid caller old mid [] → Adds reads images rid caller mid new added
-      → Adds reads images rid caller old new added
+  pub adds_behind : (rid : Rid) (caller : ℕ) (old mid new : Store D) (added : List Item) → Adds reads images moment since rid caller old mid [] → Adds reads images moment since rid caller mid new added
+      → Adds reads images moment since rid caller old new added
   adds_behind rid caller old mid new added a b = record {
     keyring = b.keyring ∙ a.keyring;
-    made = λ before h. b.made before (subst (λ (l : List Item). IsMade reads images mid l) (append-nil before) (a.made before h));
+    made = λ start before h. b.made start before (subst (λ (l : List Item). IsMade reads images moment since mid start l) (append-nil before) (a.made start before h));
     callable = λ q. b.callable q ∙ a.callable q;
     others = λ q other. b.others q other ∙ a.others q other;
     replays = λ items s.
@@ -180,8 +269,8 @@ module _ {D : Type 0} (reads : D → Option (List ℕ)) (images : D → List ℕ
         (second.0, second.1, second.2 ∙ ap (λ (x : Standing). after_items rid x added) first.2);
   }
 
-  pub stops_behind : (rid : Rid) (caller : ℕ) (old mid new : Store D) (entries : List Item) (why : KeepFault) → StandsForSome old → Adds reads images rid caller old mid []
-      → Stops reads images rid caller mid new entries why → Stops reads images rid caller old new entries why
+  pub stops_behind : (rid : Rid) (caller : ℕ) (old mid new : Store D) (entries : List Item) (why : KeepFault) → StandsForSome old → Adds reads images moment since rid caller old mid []
+      → Stops reads images moment since rid caller mid new entries why → Stops reads images moment since rid caller old new entries why
   stops_behind rid caller old mid new entries why stands a s = record {
     history = s.history;
     stopped = s.stopped;
@@ -202,8 +291,8 @@ module _ {D : Type 0} (reads : D → Option (List ℕ)) (images : D → List ℕ
   disk_not_full e = cc e
 
   -- memory was refused
-  pub stops_for_memory : (rid : Rid) (caller : ℕ) (old new : Store D) (entries : List Item) → StandsForSome old → Adds reads images rid caller old new []
-      → Stops reads images rid caller old new entries fault.NoMemory
+  pub stops_for_memory : (rid : Rid) (caller : ℕ) (old new : Store D) (entries : List Item) → StandsForSome old → Adds reads images moment since rid caller old new []
+      → Stops reads images moment since rid caller old new entries fault.NoMemory
   stops_for_memory rid caller old new entries stands a = record {
     history = [];
     stopped = record {
@@ -220,8 +309,8 @@ module _ {D : Type 0} (reads : D → Option (List ℕ)) (images : D → List ℕ
   }
 
   -- the journal was full
-  pub stops_full : (rid : Rid) (caller : ℕ) (old new : Store D) (item : Item) → StandsForSome old → Adds reads images rid caller old new []
-      → LacksRoom new.journal.end (item ∷ []) → Stops reads images rid caller old new (item ∷ []) fault.Full
+  pub stops_full : (rid : Rid) (caller : ℕ) (old new : Store D) (item : Item) → StandsForSome old → Adds reads images moment since rid caller old new []
+      → LacksRoom new.journal.end (item ∷ []) → Stops reads images moment since rid caller old new (item ∷ []) fault.Full
   stops_full rid caller old new item stands a lacks = record {
     history = [];
     stopped = record {
@@ -238,7 +327,7 @@ module _ {D : Type 0} (reads : D → Option (List ℕ)) (images : D → List ℕ
   }
 
   -- the disk failed
-  missed_held : (rid : Rid) (caller : ℕ) (left : Left) (old new : Store D) → StandsForSome old → Adds reads images rid caller old new (missed (Some rid) left caller ∷ [])
+  missed_held : (rid : Rid) (caller : ℕ) (left : Left) (old new : Store D) → StandsForSome old → Adds reads images moment since rid caller old new (missed (Some rid) left caller ∷ [])
       → held_at new rid ≡ held_at old rid
   missed_held rid caller left old new stands a =
       let next = a.replays stands.0 stands.1 in
@@ -246,7 +335,7 @@ module _ {D : Type 0} (reads : D → Option (List ℕ)) (images : D → List ℕ
 
   -- with nothing to write, or with nothing left of it
   pub stops_nothing : (rid : Rid) (caller : ℕ) (old new : Store D) (entries : List Item) (left : Left) → StandsForSome old → left ≡ lefts.Nothing
-      → Adds reads images rid caller old new (missed (Some rid) left caller ∷ []) → Stops reads images rid caller old new entries fault.DiskFault
+      → Adds reads images moment since rid caller old new (missed (Some rid) left caller ∷ []) → Stops reads images moment since rid caller old new entries fault.DiskFault
   stops_nothing rid caller old new entries left stands none a = record {
     history = missed (Some rid) left caller ∷ [];
     stopped = record {
@@ -263,7 +352,7 @@ module _ {D : Type 0} (reads : D → Option (List ℕ)) (images : D → List ℕ
   }
 
   pub stops_missed : (rid : Rid) (caller : ℕ) (old new : Store D) (item : Item) (left : Left) → StandsForSome old → (left ≡ lefts.Nothing) ⊎ (left ≡ left_of item)
-      → Adds reads images rid caller old new (missed (Some rid) left caller ∷ []) → Stops reads images rid caller old new (item ∷ []) fault.DiskFault
+      → Adds reads images moment since rid caller old new (missed (Some rid) left caller ∷ []) → Stops reads images moment since rid caller old new (item ∷ []) fault.DiskFault
   stops_missed rid caller old new item left stands names a = record {
     history = missed (Some rid) left caller ∷ [];
     stopped = record {

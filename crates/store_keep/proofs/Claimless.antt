@@ -1,5 +1,5 @@
 -- Entries without their claims.
-use Rattle.std.proofs.Common.{◌≡◌, ℕ, List, [], ◌∷◌, ◌++◌, Option, Some, refl, sym, ap, ◌∙◌}
+use Rattle.std.proofs.Common.{◌≡◌, List, [], ◌∷◌, ◌++◌, Some, refl, sym, ap, ◌∙◌}
 use Rattle.std.specs.List.{AllByRecursion}
 use Rattle.repo_entries.specs.Items.{Item, claim, install, left_of, missed, put, refused}
 use Rattle.legal_history.specs.Durable.{durable_part}

@@ -1,5 +1,5 @@
 -- What events of one repository and one caller make of a history.
-use Rattle.std.proofs.Common.{◌≡◌, ◌||◌, ℕ, ◌≤◌, Bool, true, false, eqb, List, [], ◌∷◌, ◌++◌, Option, None, Some, inl, inr, refl, sym, ap, subst, ◌∙◌}
+use Rattle.std.proofs.Common.{◌≡◌, ◌||◌, ℕ, Bool, true, false, eqb, List, [], ◌∷◌, ◌++◌, Option, None, Some, inl, inr, refl, sym, ap, subst, ◌∙◌}
 use Rattle.std.specs.List.{AllByRecursion}
 use Rattle.std.proofs.lemmas.Bool.{eq-eqb}
 use Rattle.std.proofs.lemmas.List.{append-nil, append_assoc}
@@ -12,7 +12,7 @@ use Rattle.repo_entries.specs.declared.entry.Left.TheVariants.{Nothing}
 use Rattle.legal_history.specs.Cores.{Core, Event, Runs, Steps, claims, doubts, enters, grown, mends, misses, refuses}
 use Rattle.legal_history.specs.Durable.{IsDurable, durable_part, reopened}
 use Rattle.legal_history.specs.Histories.{Lawful, Legal}
-use Rattle.legal_history.specs.Replays.{Standing, after_item, after_items, claimant, is_same, nothing_stands, replay}
+use Rattle.legal_history.specs.Replays.{Standing, after_items, claimant, replay}
 use Rattle.legal_history.proofs.Durables.{durable-append, durable_claimed, durable_refused, lawful_durable, legal_more}
 use Rattle.legal_history.proofs.GoodStandings.{replay_more}
 use Rattle.object_store.specs.Shown.{Concerns}

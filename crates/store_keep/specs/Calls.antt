@@ -27,9 +27,10 @@ ReplaysBehind rid old new added = (items : List Item) → StandsFor old items
 
 -- these entries were added, and nothing was done to other repositories
 pub record Adds {D : Type 0} (reads : D → Option (List ℕ)) (images : D → List ℕ → Type 0)
-    (rid : Rid) (caller : ℕ) (old new : Store D) (added : List Item) : Type 0 where
+    (moment : D → ℕ) (since : D → ℕ → List ℕ → Type 0) (rid : Rid) (caller : ℕ) (old new : Store D)
+    (added : List Item) : Type 0 where
   pub keyring : new.keyring ≡ old.keyring
-  pub made : Makes (IsMade reads images) old new added
+  pub made : Makes (IsMade reads images moment since) old new added
   pub callable : (other : Rid)
       → may_call caller (claimant_of new other) ≡ may_call caller (claimant_of old other)
   pub others : (other : Rid) → (other ≡ rid → ⊥) → held_at new other ≡ held_at old other
@@ -37,19 +38,21 @@ pub record Adds {D : Type 0} (reads : D → Option (List ℕ)) (images : D → L
 
 -- a call that had these entries to make was refused
 pub record Stops {D : Type 0} (reads : D → Option (List ℕ)) (images : D → List ℕ → Type 0)
-    (rid : Rid) (caller : ℕ) (old new : Store D) (entries : List Item) (why : KeepFault) : Type 0 where
+    (moment : D → ℕ) (since : D → ℕ → List ℕ → Type 0) (rid : Rid) (caller : ℕ) (old new : Store D)
+    (entries : List Item) (why : KeepFault) : Type 0 where
   pub history : List Item
   pub stopped : IsStopped rid caller new.journal.end entries why history
-  pub adds : Adds reads images rid caller old new history
+  pub adds : Adds reads images moment since rid caller old new history
   pub same : held_at new rid ≡ held_at old rid
 
 -- what a put made of a store
-abbrev pub Puts : {D : Type 0} → (D → Option (List ℕ)) → (D → List ℕ → Type 0) → Rid → ℕ
-    → List Object → Store D → Store D → Result (Unit {0}) KeepFault → Type 0
-Puts reads images rid caller batch old new (Ok done) =
-    Adds reads images rid caller old new (put rid batch caller ∷ []) × (new.journal.end < 2 ^ 40)
-Puts reads images rid caller batch old new (Err why) =
-    Stops reads images rid caller old new (put rid batch caller ∷ []) why
+abbrev pub Puts : {D : Type 0} → (D → Option (List ℕ)) → (D → List ℕ → Type 0) → (D → ℕ)
+    → (D → ℕ → List ℕ → Type 0) → Rid → ℕ → List Object → Store D → Store D → Result (Unit {0}) KeepFault → Type 0
+Puts reads images moment since rid caller batch old new (Ok done) =
+    Adds reads images moment since rid caller old new (put rid batch caller ∷ [])
+    × (new.journal.end < 2 ^ 40)
+Puts reads images moment since rid caller batch old new (Err why) =
+    Stops reads images moment since rid caller old new (put rid batch caller ∷ []) why
 
 -- the verdict on an offer, on what a store has of a repository
 abbrev pub IsVerdictFor : {D : Type 0} → Store D → Rid → ℕ → Offer → Scope → Result Judged Whole
@@ -59,21 +62,22 @@ IsVerdictFor store rid caller offer scope verdict =
 
 -- what an install made of a store that had a verdict
 pub record Judges {D : Type 0} (reads : D → Option (List ℕ)) (images : D → List ℕ → Type 0)
-    (rid : Rid) (caller : ℕ) (old new : Store D) (verdict : Result Judged Whole) : Type 0 where
-  pub adds : Adds reads images rid caller old new (item_of rid caller verdict ∷ [])
+    (moment : D → ℕ) (since : D → ℕ → List ℕ → Type 0) (rid : Rid) (caller : ℕ) (old new : Store D)
+    (verdict : Result Judged Whole) : Type 0 where
+  pub adds : Adds reads images moment since rid caller old new (item_of rid caller verdict ∷ [])
   pub behind : HeldBehind (held_at old rid) verdict (held_at new rid)
   pub room : HadRoom new.journal.end verdict
 
 -- what an install made of a store
-abbrev pub Installs : {D : Type 0} → (D → Option (List ℕ)) → (D → List ℕ → Type 0) → Rid → ℕ
-    → Offer → Scope → Store D → Store D → Result (Result Judged Whole) KeepFault → Type 0
-Installs reads images rid caller offer scope old new (Ok verdict) =
+abbrev pub Installs : {D : Type 0} → (D → Option (List ℕ)) → (D → List ℕ → Type 0) → (D → ℕ)
+    → (D → ℕ → List ℕ → Type 0) → Rid → ℕ → Offer → Scope → Store D → Store D → Result (Result Judged Whole) KeepFault → Type 0
+Installs reads images moment since rid caller offer scope old new (Ok verdict) =
     IsVerdictFor old rid caller offer scope verdict
-    × Judges reads images rid caller old new verdict
-Installs reads images rid caller offer scope old new (Err why) =
-    Stops reads images rid caller old new [] why
+    × Judges reads images moment since rid caller old new verdict
+Installs reads images moment since rid caller offer scope old new (Err why) =
+    Stops reads images moment since rid caller old new [] why
     ⊎ ((judged : Judged) × IsVerdictFor old rid caller offer scope (Ok judged)
-    × Stops reads images rid caller old new (install_of rid caller judged ∷ []) why)
+    × Stops reads images moment since rid caller old new (install_of rid caller judged ∷ []) why)
 
 -- the canonical head of what a store has of a repository
 abbrev pub IsHeadFor : {D : Type 0} → Store D → Rid → Head → Type 0

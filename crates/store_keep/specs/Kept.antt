@@ -1,6 +1,5 @@
 -- What a keep over a store is seen as, and what it has.
 use Rattle.std.specs.Prelude.{◌||◌, ℕ, ◌≤◌, Bool, eqb}
-use Rattle.rad_base.specs.declared.names.Rid.{Rid}
 use Rattle.repo_slice.specs.Keeps.{Constants}
 use Rattle.object_store.specs.Held.{claimant_of}
 use Rattle.object_store.specs.Stores.{StandsForSome}

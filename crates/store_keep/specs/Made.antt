@@ -3,6 +3,7 @@ use Rattle.std.specs.Prelude.{◌≡◌, ◌⊎◌, ℕ, List, [], ◌∷◌, �
 use Rattle.std.specs.List.{AllByRecursion}
 use Rattle.rad_base.specs.declared.names.Rid.{Rid}
 use Rattle.keyring.specs.Contents.{Contents}
+use Rattle.ref_journal.specs.Holds.{LeavesOnlyBetween}
 use Rattle.ref_journal.specs.Moments.{HasBodies}
 use Rattle.repo_entries.specs.Items.{Item, claim, install, left_of, missed, put, refused}
 use Rattle.repo_entries.specs.declared.entry.Left.TheVariants.{Nothing}
@@ -50,16 +51,6 @@ pub record IsDoubtKnown (keyring : Contents) (core : Core) : Type 0 where
   pub lawful : (item : Item) → core.doubt ≡ Some item
       → Lawful keyring (durable_part core.items) (reopened item)
 
--- the store stands for these entries and its claims, its disk tells their durable part, and what is
--- in doubt is known
-pub record IsMade {D : Type 0} (reads : D → Option (List ℕ)) (images : D → List ℕ → Type 0)
-    (store : Store D) (items : List Item) : Type 0 where
-  pub core : Core
-  pub entries : items ≡ no_claims core.items
-  pub stands : StandsFor store core.items
-  pub disk : IsOnDisk reads images store core
-  pub doubt : IsDoubtKnown store.keyring core
-
 -- the image is a journal of the durable part of the entries, or of it and then the entry that the
 -- last missed one names
 abbrev pub IsImageOf : List Item → List ℕ → Type 0
@@ -71,3 +62,35 @@ IsImageOf items image = HasBodies (bodies_of (durable_part items)) image
 abbrev pub ReopensLegal : Contents → List ℕ → Type 0
 ReopensLegal keyring image =
     (items : List Item) × Legal keyring items × HasBodies (bodies_of items) image
+
+-- The image is one of the first of these entries, all of those that stood at the start among them:
+-- of some front of the list, or of it and then the entry that its last missed one names. It is a
+-- journal of a legal history.
+pub record IsPastImage (keyring : Contents) (first items : List Item) (image : List ℕ)
+    : Type 0 where
+  pub done : List Item
+  pub rest : List Item
+  pub all : items ≡ (first ++ done) ++ rest
+  pub has : IsImageOf (first ++ done) image
+  pub legal : ReopensLegal keyring image
+
+-- a disk as it was at a moment, and the entries that stood then
+pub record Start (D : Type 0) : Type 0 where
+  pub disk : D
+  pub items : List Item
+
+-- The store stands for these entries and its claims, its disk tells their durable part, and what is
+-- in doubt is known. The entries of the start come first, and a crash at any moment since the start
+-- leaves an image of the first of the entries.
+pub record IsMade {D : Type 0} (reads : D → Option (List ℕ)) (images : D → List ℕ → Type 0)
+    (moment : D → ℕ) (since : D → ℕ → List ℕ → Type 0) (store : Store D) (start : Start D)
+    (items : List Item) : Type 0 where
+  pub core : Core
+  pub entries : items ≡ no_claims core.items
+  pub stands : StandsFor store core.items
+  pub disk : IsOnDisk reads images store core
+  pub doubt : IsDoubtKnown store.keyring core
+  pub added : List Item
+  pub all : items ≡ start.items ++ added
+  pub time : LeavesOnlyBetween moment since start.disk store.journal.disk
+      (IsPastImage store.keyring start.items items)

@@ -32,7 +32,8 @@ pub(crate) fn claim_for<D: Disk>(
     ensures journal { store.new.journal ≡ store.old.journal }
     ensures stands { StandsForSome store.new }
     ensures claimed { OnOk result (HasClaimed store.new rid.now caller) }
-    ensures adds { Adds D.reads_as D.images rid.now caller store.old store.new [] }
+    ensures adds { Adds D.reads_as D.images D.moment D.images_since
+        rid.now caller store.old store.new [] }
 {
     match store.claim(alloc, rid, caller) {
         Ok(()) => Ok(()),
@@ -53,7 +54,8 @@ pub(crate) fn have_for<D: Disk>(
     requires stands { StandsForSome store.old }
     ensures journal { store.new.journal ≡ store.old.journal }
     ensures stands { StandsForSome store.new }
-    ensures adds { Adds D.reads_as D.images rid.now caller store.old store.new [] }
+    ensures adds { Adds D.reads_as D.images D.moment D.images_since
+        rid.now caller store.old store.new [] }
     ensures rising { IfOk result AreRisingNames }
     ensures names { IfOk result (λ oids. (oid : Oid)
         → Contains oids oid ↔ IsNamedIn (held_at store.old rid.now) oid) }
@@ -77,7 +79,8 @@ pub(crate) fn wants_for<D: Disk>(
     requires stands { StandsForSome store.old }
     ensures journal { store.new.journal ≡ store.old.journal }
     ensures stands { StandsForSome store.new }
-    ensures adds { Adds D.reads_as D.images rid.now caller store.old store.new [] }
+    ensures adds { Adds D.reads_as D.images D.moment D.images_since
+        rid.now caller store.old store.new [] }
     ensures fault { IfErr result (λ why. why ≡ KeepFault.NoMemory) }
     ensures wanted { IfOk result (IsWantedOn (constants_at store.old caller)
         (held_at store.old rid.now) offer.now scope.now stage) }
@@ -105,7 +108,8 @@ pub(crate) fn put_for<D: Disk>(
         → Rose (D.faults store.old.journal.disk) (D.faults store.new.journal.disk) }
     ensures stands { StandsForSome store.new }
     ensures unchanged { IfErr result IsNoChange }
-    ensures puts { Puts D.reads_as D.images rid.now caller batch.now store.old store.new result }
+    ensures puts { Puts D.reads_as D.images D.moment D.images_since
+        rid.now caller batch.now store.old store.new result }
 {
     claim_for(alloc, store, rid, caller)?;
     store.put(alloc, rid, caller, batch)
@@ -129,7 +133,8 @@ pub(crate) fn install_for<D: Disk>(
         → Rose (D.faults store.old.journal.disk) (D.faults store.new.journal.disk) }
     ensures stands { StandsForSome store.new }
     ensures unchanged { IfErr result IsNoChange }
-    ensures installs { Installs D.reads_as D.images rid.now caller offer.now scope.now store.old
+    ensures installs { Installs D.reads_as D.images D.moment D.images_since
+        rid.now caller offer.now scope.now store.old
         store.new result }
 {
     claim_for(alloc, store, rid, caller)?;
@@ -149,7 +154,8 @@ pub(crate) fn head_for<D: Disk>(
     requires identity { IsSome (held_at store.old rid.now).state.id }
     ensures journal { store.new.journal ≡ store.old.journal }
     ensures stands { StandsForSome store.new }
-    ensures adds { Adds D.reads_as D.images rid.now caller store.old store.new [] }
+    ensures adds { Adds D.reads_as D.images D.moment D.images_since
+        rid.now caller store.old store.new [] }
     ensures fault { IfErr result (λ why. why ≡ KeepFault.NoMemory) }
     ensures head { IfOk result (IsHeadFor store.old rid.now) }
 {

@@ -77,9 +77,12 @@ impl<D> StoreKeep<D> {
 impl<D: Disk> Keep for StoreKeep<D> {
     ghost use Rattle.object_store.specs.Held.{held_at};
     ghost use Rattle.store_keep.specs.Kept.{constants_of};
-    ghost use Rattle.store_keep.specs.Made.{IsMade};
+    ghost use Rattle.store_keep.specs.Made.{IsMade, Start};
 
-    ghost made = { λ keep items. IsMade D.reads_as D.images keep.store items };
+    ghost Origin = { Start D };
+
+    ghost made = { λ keep origin items. IsMade D.reads_as D.images D.moment D.images_since
+        keep.store origin items };
 
     ghost held = { λ keep rid. held_at keep.store rid };
 

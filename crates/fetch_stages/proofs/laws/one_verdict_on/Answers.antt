@@ -1,4 +1,4 @@
-use Rattle.fetch_stages.proofs.OneRefusal.{one_verdict_on}
+use Rattle.fetch_stages.proofs.OneVerdicts.{one_verdict_on}
 use Rattle.fetch_stages.proofs.laws.one_verdict_on.Goals as goal
 
 pub returns : goal.returns

@@ -12,7 +12,7 @@ returns-clause-imported g c = λ files opened.
     let given = g.W.Sink.given in
     let run = c.run_job-end in
     let report = c.report_import-status in
-    rw (c.close-disk.ensures.disk ∙ ap (λ (s : Store g.row.D.Denot). s.journal.disk) report.ensures.same) (imported g.D.Disk.reads_as g.D.Disk.images files run.result.1 (IsAtEnd (left run.new.input))
+    rw (c.close-disk.ensures.disk ∙ ap (λ (s : Store g.row.D.Denot). s.journal.disk) report.ensures.same) (imported g.D.Disk.reads_as g.D.Disk.images g.D.Disk.moment g.D.Disk.images_since c.args.store.journal.disk files run.result.1 (IsAtEnd (left run.new.input))
     (Rose (g.W.Sink.faults c.args.out.now) (g.W.Sink.faults report.new.out)) _ (Consumes (left c.args.input.now) (left run.new.input))
     (GivesBy report.result (given c.args.out.now) (given report.new.out)) report.result run.result.0
     (Rose (g.I.Source.faults c.args.input.now) (g.I.Source.faults run.new.input))

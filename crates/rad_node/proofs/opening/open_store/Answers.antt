@@ -1,5 +1,6 @@
 use Rattle.rad_base.specs.Faults.{Rose}
-use Rattle.rad_node.proofs.Openings.{has_opened, opening_fault}
+use Rattle.ref_journal.proofs.Walks.{only_reads_none}
+use Rattle.rad_node.proofs.Openings.{has_opened, kept_by, opening_fault}
 use Rattle.rad_node.proofs.opening.open_store.Goals as goal
 
 pub returns-in-Ok-open-clause-opened : goal.returns-in-Ok-open-clause-opened
@@ -13,3 +14,18 @@ returns-in-Err-open-clause-refused g c =
     (Rose (g.S.Source.faults c.args.keys.now) (g.S.Source.faults c.read_keyring.new.keys))
     (Rose (g.D.Disk.faults c.args.disk) (g.D.Disk.faults c.in-Err-open.fault.disk)) c.in-Err-open.fault.why c.in-Ok.ensures.keyring
     (λ e. c.in-Err-open.ensures.cause e) c.in-Err-open.ensures.opened)
+
+pub returns-in-Err-clause-kept : goal.returns-in-Err-clause-kept
+returns-in-Err-clause-kept g c =
+    kept_by g.D.Disk.loan g.D.Disk.faults g.D.Disk.reads_as g.D.Disk.images g.D.Disk.moment g.D.Disk.images_since g.met.D.Disk.only_now c.args.disk c.args.disk
+    (only_reads_none g.D.Disk.loan g.D.Disk.faults g.D.Disk.reads_as g.D.Disk.images g.D.Disk.moment g.D.Disk.images_since c.args.disk)
+
+pub returns-in-Ok-open-clause-kept : goal.returns-in-Ok-open-clause-kept
+returns-in-Ok-open-clause-kept g c =
+    kept_by g.D.Disk.loan g.D.Disk.faults g.D.Disk.reads_as g.D.Disk.images g.D.Disk.moment g.D.Disk.images_since g.met.D.Disk.only_now c.args.disk c.in-Ok-open.store.journal.disk
+    c.in-Ok-open.ensures.reads
+
+pub returns-in-Err-open-clause-kept : goal.returns-in-Err-open-clause-kept
+returns-in-Err-open-clause-kept g c =
+    kept_by g.D.Disk.loan g.D.Disk.faults g.D.Disk.reads_as g.D.Disk.images g.D.Disk.moment g.D.Disk.images_since g.met.D.Disk.only_now c.args.disk c.in-Err-open.fault.disk
+    c.in-Err-open.ensures.reads

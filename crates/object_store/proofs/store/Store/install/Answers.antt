@@ -14,12 +14,12 @@ pub returns-in_err-judged-clause-events : goal.returns-in_err-judged-clause-even
 returns-in_err-judged-clause-events g c =
     let p = err_from_is_err_and c.from_residual.result c.from_residual.ensures.1 in
     rw (p.1, p.2) (λ core s.
-    judged_nothing g.D.Disk.reads_as g.D.Disk.images c.args.self.now c.judge.new.self core c.args.rid.now s c.in_err-judged.ensures.keyring c.in_err-judged.ensures.entries
+    judged_nothing g.D.Disk.reads_as g.D.Disk.images g.D.Disk.moment g.D.Disk.images_since g.met.D.Disk.only_now c.args.self.now c.judge.new.self core c.args.rid.now s c.in_err-judged.ensures.keyring c.in_err-judged.ensures.entries
     c.in_err-judged.ensures.journal c.in_err-judged.ensures.others c.in_err-judged.ensures.same)
 
 pub returns-in-Err-clause-events : goal.returns-in-Err-clause-events
 returns-in-Err-clause-events g c = λ core s.
-    judged_refused g.D.Disk.reads_as g.D.Disk.images c.args.self.now c.judge.new.self c.args.rid.now c.args.offer.now c.args.scope.now c.in_ok-judged.field-0 c.args.caller
+    judged_refused g.D.Disk.reads_as g.D.Disk.images g.D.Disk.moment g.D.Disk.images_since g.met.D.Disk.only_now c.args.self.now c.judge.new.self c.args.rid.now c.args.offer.now c.args.scope.now c.in_ok-judged.field-0 c.args.caller
     c.requires.claimed
     (record {
       journal = c.in_ok-judged.ensures.journal;
@@ -35,7 +35,7 @@ returns-in-Err-clause-events g c = λ core s.
 pub prepare_install-requires-clause-few : goal.prepare_install-requires-clause-few
 prepare_install-requires-clause-few g c =
     rw c.in_ok-next.ensures.next.1
-    (few_advance g.D.Disk.reads_as g.D.Disk.images c.args.self.now c.judge.new.self c.args.rid.now c.args.offer.now c.args.scope.now c.in-Ok.judged c.args.caller
+    (few_advance g.D.Disk.reads_as g.D.Disk.images g.D.Disk.moment g.D.Disk.images_since g.met.D.Disk.only_now c.args.self.now c.judge.new.self c.args.rid.now c.args.offer.now c.args.scope.now c.in-Ok.judged c.args.caller
     c.requires.claimed (record {
       journal = c.in_ok-judged.ensures.journal;
       keyring = c.in_ok-judged.ensures.keyring;
@@ -49,15 +49,15 @@ pub returns-in_err-next-clause-events : goal.returns-in_err-next-clause-events
 returns-in_err-next-clause-events g c =
     let p = err_from_is_err_and c.from_residual-in_err-next.result c.from_residual-in_err-next.ensures.1 in
     rw (p.1, p.2) (λ core s.
-    judged_nothing g.D.Disk.reads_as g.D.Disk.images c.args.self.now c.judge.new.self core c.args.rid.now s c.in_ok-judged.ensures.keyring c.in_ok-judged.ensures.entries
+    judged_nothing g.D.Disk.reads_as g.D.Disk.images g.D.Disk.moment g.D.Disk.images_since g.met.D.Disk.only_now c.args.self.now c.judge.new.self core c.args.rid.now s c.in_ok-judged.ensures.keyring c.in_ok-judged.ensures.entries
     c.in_ok-judged.ensures.journal c.in_ok-judged.ensures.others c.in_ok-judged.ensures.same)
 
 pub returns-in_err-entry-clause-events : goal.returns-in_err-entry-clause-events
 returns-in_err-entry-clause-events g c =
     let p = err_from_is_err_and c.from_residual-in_err-entry.result c.from_residual-in_err-entry.ensures.1 in
     rw (p.1, p.2) (λ core s.
-    prepared_nothing g.D.Disk.reads_as g.D.Disk.images c.args.self.now c.prepare_install.new.self core c.args.rid.now s
-    (prepares g.D.Disk.reads_as g.D.Disk.images c.args.self.now c.judge.new.self c.args.rid.now c.args.offer.now c.args.scope.now c.in-Ok.judged c.args.caller
+    prepared_nothing g.D.Disk.reads_as g.D.Disk.images g.D.Disk.moment g.D.Disk.images_since g.met.D.Disk.only_now c.args.self.now c.prepare_install.new.self core c.args.rid.now s
+    (prepares g.D.Disk.reads_as g.D.Disk.images g.D.Disk.moment g.D.Disk.images_since g.met.D.Disk.only_now c.args.self.now c.judge.new.self c.args.rid.now c.args.offer.now c.args.scope.now c.in-Ok.judged c.args.caller
     c.requires.claimed (record {
       journal = c.in_ok-judged.ensures.journal;
       keyring = c.in_ok-judged.ensures.keyring;
@@ -79,7 +79,7 @@ pub returns-in_err-write-clause-events : goal.returns-in_err-write-clause-events
 returns-in_err-write-clause-events g c =
     let p = err_from_is_err_and c.from_residual-in_err-write.result c.from_residual-in_err-write.ensures.1 in
     rw (p.1, p.2) (λ core s.
-    not_installed g.D.Disk.reads_as g.D.Disk.images c.args.self.now c.judge.new.self c.args.rid.now c.args.offer.now c.args.scope.now c.in-Ok.judged c.args.caller
+    not_installed g.D.Disk.reads_as g.D.Disk.images g.D.Disk.moment g.D.Disk.images_since g.met.D.Disk.only_now c.args.self.now c.judge.new.self c.args.rid.now c.args.offer.now c.args.scope.now c.in-Ok.judged c.args.caller
     c.requires.claimed (record {
       journal = c.in_ok-judged.ensures.journal;
       keyring = c.in_ok-judged.ensures.keyring;
@@ -102,7 +102,7 @@ returns-in_err-write-clause-events g c =
 
 pub returns-clause-events : goal.returns-clause-events
 returns-clause-events g c = λ core s.
-    installed g.D.Disk.reads_as g.D.Disk.images c.args.self.now c.judge.new.self c.args.rid.now c.args.offer.now c.args.scope.now c.in-Ok.judged c.args.caller
+    installed g.D.Disk.reads_as g.D.Disk.images g.D.Disk.moment g.D.Disk.images_since g.met.D.Disk.only_now c.args.self.now c.judge.new.self c.args.rid.now c.args.offer.now c.args.scope.now c.in-Ok.judged c.args.caller
     c.requires.claimed (record {
       journal = c.in_ok-judged.ensures.journal;
       keyring = c.in_ok-judged.ensures.keyring;
@@ -143,7 +143,7 @@ returns-in_err-write-clause-claims g c =
     (claims_equal c.args.self.now c.judge.new.self c.args.rid.now c.in_ok-judged.ensures.others c.in_ok-judged.ensures.same)
     (claims_on c.judge.new.self c.prepare_install.new.self c.write.new.self
     (claims_same c.judge.new.self c.prepare_install.new.self c.args.rid.now c.in_ok-entry.ensures.others c.in_ok-entry.ensures.same)
-    (claims_written g.D.Disk.reads_as g.D.Disk.images c.prepare_install.new.self c.write.new.self c.args.rid.now c.args.caller c.in_ok-entry.entry c.in_ok-entry.parcel c.write.result
+    (claims_written g.D.Disk.reads_as g.D.Disk.images g.D.Disk.moment g.D.Disk.images_since c.prepare_install.new.self c.write.new.self c.args.rid.now c.args.caller c.in_ok-entry.entry c.in_ok-entry.parcel c.write.result
     c.write.ensures.others c.write.ensures.wrote c.write.ensures.fault))
 
 pub returns-clause-claims : goal.returns-clause-claims
@@ -152,5 +152,5 @@ returns-clause-claims g c =
     (claims_equal c.args.self.now c.judge.new.self c.args.rid.now c.in_ok-judged.ensures.others c.in_ok-judged.ensures.same)
     (claims_on c.judge.new.self c.prepare_install.new.self c.write.new.self
     (claims_same c.judge.new.self c.prepare_install.new.self c.args.rid.now c.in_ok-entry.ensures.others c.in_ok-entry.ensures.same)
-    (claims_written g.D.Disk.reads_as g.D.Disk.images c.prepare_install.new.self c.write.new.self c.args.rid.now c.args.caller c.in_ok-entry.entry c.in_ok-entry.parcel c.write.result
+    (claims_written g.D.Disk.reads_as g.D.Disk.images g.D.Disk.moment g.D.Disk.images_since c.prepare_install.new.self c.write.new.self c.args.rid.now c.args.caller c.in_ok-entry.entry c.in_ok-entry.parcel c.write.result
     c.write.ensures.others c.write.ensures.wrote c.write.ensures.fault))

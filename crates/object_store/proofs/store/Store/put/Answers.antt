@@ -8,7 +8,7 @@ pub returns-in_err-entry-clause-events : goal.returns-in_err-entry-clause-events
 returns-in_err-entry-clause-events g c =
     let p = err_from_is_err_and c.from_residual.result c.from_residual.ensures.1 in
     rw (p.1, p.2) (λ core s.
-    prepared_nothing g.D.Disk.reads_as g.D.Disk.images c.args.self.now c.prepare_put.new.self core c.args.rid.now s
+    prepared_nothing g.D.Disk.reads_as g.D.Disk.images g.D.Disk.moment g.D.Disk.images_since g.met.D.Disk.only_now c.args.self.now c.prepare_put.new.self core c.args.rid.now s
     (record {
       journal = c.in_err-entry.ensures.journal;
       keyring = c.in_err-entry.ensures.keyring;
@@ -19,7 +19,7 @@ returns-in_err-entry-clause-events g c =
 
 pub returns-clause-events : goal.returns-clause-events
 returns-clause-events g c = λ core s.
-    put_by g.D.Disk.reads_as g.D.Disk.images c.args.self.now c.prepare_put.new.self c.write.new.self core c.args.rid.now s
+    put_by g.D.Disk.reads_as g.D.Disk.images g.D.Disk.moment g.D.Disk.images_since g.met.D.Disk.only_now c.args.self.now c.prepare_put.new.self c.write.new.self core c.args.rid.now s
     (record {
       journal = c.in_ok-entry.ensures.journal;
       keyring = c.in_ok-entry.ensures.keyring;
@@ -36,5 +36,5 @@ pub returns-clause-claims : goal.returns-clause-claims
 returns-clause-claims g c =
     claims_on c.args.self.now c.prepare_put.new.self c.write.new.self
     (claims_same c.args.self.now c.prepare_put.new.self c.args.rid.now c.in_ok-entry.ensures.others c.in_ok-entry.ensures.same)
-    (claims_written g.D.Disk.reads_as g.D.Disk.images c.prepare_put.new.self c.write.new.self c.args.rid.now c.args.caller c.in_ok-entry.entry c.in_ok-entry.parcel c.write.result
+    (claims_written g.D.Disk.reads_as g.D.Disk.images g.D.Disk.moment g.D.Disk.images_since c.prepare_put.new.self c.write.new.self c.args.rid.now c.args.caller c.in_ok-entry.entry c.in_ok-entry.parcel c.write.result
     c.write.ensures.others c.write.ensures.wrote c.write.ensures.fault)

@@ -26,11 +26,13 @@ returns-in_err-enter-clause-left g c =
     (c.in_err-enter.ensures.left bodies c.args.parcel.now c.framed-frame.ensures.bytes c.framed-frame.ensures.size (c.in_ok-mend.ensures.mended bodies doubt h)))
 
 pub returns-in_err-enter-clause-moments : goal.returns-in_err-enter-clause-moments
-returns-in_err-enter-clause-moments g c = λ bodies doubt h.
+returns-in_err-enter-clause-moments g c =
+    let p = err_from_is_err_and c.from_residual-in_err-enter.result c.from_residual-in_err-enter.ensures.1 in
+    rw (p.1, p.2) (λ bodies doubt h.
     leaves_both _ _ _ _ _ _ _
     (leaves_more _ _ _ _ _ _ (λ image has. inl has) (c.in_ok-mend.ensures.moments bodies doubt h))
     (leaves_more _ _ _ _ _ _ (λ image has. inr has) (c.in_err-enter.ensures.moments bodies c.args.parcel.now c.framed-frame.ensures.bytes c.framed-frame.ensures.size
-    (c.in_ok-mend.ensures.mended bodies doubt h)))
+    (c.in_ok-mend.ensures.mended bodies doubt h))))
 
 pub returns-clause-holds : goal.returns-clause-holds
 returns-clause-holds g c = λ bodies doubt h.

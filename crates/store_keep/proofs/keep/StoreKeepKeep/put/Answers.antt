@@ -11,5 +11,5 @@ returns-clause-slice g c =
     subst (λ (k : Kept g.row.D.Denot). OnOk c.put_for.result (HasSlice (held_at k.store c.args.rid.now).state (put_told (held_at k.store c.args.rid.now).objects c.args.batch.now)
     (held_at c.put_for.new.store c.args.rid.now)))
     c.self.view_is
-    (put_held g.D.Disk.reads_as g.D.Disk.images g.D.Disk.loan g.D.Disk.faults c.args.rid.now c.self.inside.caller c.self.inside.store c.put_for.new.store c.args.batch.now c.put_for.result c.self.invariant.stands
+    (put_held g.D.Disk.reads_as g.D.Disk.images g.D.Disk.moment g.D.Disk.images_since g.D.Disk.loan g.D.Disk.faults c.args.rid.now c.self.inside.caller c.self.inside.store c.put_for.new.store c.args.batch.now c.put_for.result c.self.invariant.stands
     c.put_for.ensures.puts)
