@@ -289,7 +289,7 @@ def find_program(named: str | None) -> str:
         if path and os.access(path, os.X_OK) and os.path.isfile(path):
             return os.path.abspath(path)
     raise Refused(f"there is no program at {named}" if named else
-                  "rad_node is not built: run ./quickstart, or name it by --program PATH")
+                  "rad_node is not built: run ./install, or name it by --program PATH")
 
 
 def run_program(program: str, *words: str) -> list[bytes]:
