@@ -1,6 +1,7 @@
 -- What an import is, by how its job ended and how the run ended.
 use Rattle.std.proofs.Common.{◌≡◌, ◌⊎◌, ◌↔◌, Bool, ℕ, List, [], ◌∷◌, ◌++◌, ⊎_elim, Option, None, Some, inl, inr, refl, sym, ap, ◌∙◌, subst}
 use Rattle.std.specs.Prelude.{IsSome, Contains, IsTrue, length}
+use Rattle.std.proofs.lemmas.List.{append_cancel_left}
 use Rattle.rad_base.proofs.Conditions.{differ}
 use Rattle.rad_base.specs.declared.names.Nid.{Nid}
 use Rattle.rad_base.specs.declared.names.Rid.{Rid}
@@ -19,7 +20,7 @@ use Rattle.legal_history.specs.Durable.{durable_part}
 use Rattle.legal_history.specs.Replays.{Standing, after_item, after_items, nothing_stands, replay, state_in}
 use Rattle.object_store.specs.Bodies.{bodies_of, body_in_doubt}
 use Rattle.object_store.specs.declared.store.Store.{Store}
-use Rattle.store_keep.specs.Made.{IsImageOf, IsMade, IsPastImage, ReopensLegal, Start, no_claims}
+use Rattle.store_keep.specs.Made.{EndsWithin, IsImageOf, IsMade, IsPastImage, ReopensLegal, Start, no_claims}
 use Rattle.store_keep.proofs.Claimless.{no_claims_durable}
 use Rattle.store_keep.proofs.Imaging.{image_legal, image_of}
 use Rattle.fetch_stages.specs.declared.job_end.ImportEnd.{ImportEnd}
@@ -165,6 +166,8 @@ module _ {D : Type 0} (reads : D → Option (List ℕ)) (images : D → List ℕ
         end = store.journal.end;
         history = h.history;
         made = made;
+        room = if_told (λ bytes. IsMade reads images moment since store (start h) all) (λ bytes. EndsWithin store.journal.end h.history) files.store
+            (λ bytes m. subst (EndsWithin store.journal.end) (sym (append_cancel_left h.stored h.history m.added m.all)) m.room) h.store_has;
         end_is = if_told (λ bytes. IsMade reads images moment since store (start h) all) (λ bytes. store.journal.end ≡ gate_behind (bodies_of (durable_part all))) files.store
             (λ bytes m. made_end reads images moment since store (start h) all m) h.store_has;
         images_are = if_told (λ bytes. IsMade reads images moment since store (start h) all) (λ bytes. (image : List ℕ) → images store.journal.disk image → IsImageOf all image) files.store
@@ -289,6 +292,7 @@ imported_else counted files consumed at_end images these those gives s more i = 
   end = i.end;
   history = i.history;
   made = i.made;
+  room = i.room;
   end_is = i.end_is;
   images_are = i.images_are;
   legal = i.legal;

@@ -16,7 +16,7 @@ use Rattle.object_store.specs.Bodies.{bodies_of}
 use Rattle.object_store.specs.Held.{held_in}
 use Rattle.object_store.specs.Stores.{StandsFor}
 use Rattle.object_store.specs.declared.store.Store.{Store}
-use Rattle.store_keep.specs.Made.{IsImageOf, IsPastImage, ReopensLegal}
+use Rattle.store_keep.specs.Made.{EndsWithin, IsImageOf, IsPastImage, ReopensLegal}
 use Rattle.fetch_stages.specs.Imports.{Bad, Came, Inside, IsBundleJob, IsHeadOn, IsNamedBy, Long, Unjudged, Verdict}
 use Rattle.fetch_stages.specs.declared.job_end.ImportEnd.{ImportEnd}
 use Rattle.fetch_stages.specs.declared.job_end.ImportEnd.TheVariants as import
@@ -207,8 +207,9 @@ IsWholeRun other = ⊥
 -- those that were read has its entries and its stop. Those that were made stand behind the stored ones: every
 -- image that a crash now may leave is a journal of the durable part of both, or of it and the one entry in
 -- doubt that the last missed one names, and has the bodies of a legal history. An image that a crash at any
--- moment of the run may have left is the same of the stored ones and some first of those that were made. Where a
--- report was given it is that of the job's end, and nothing follows the bundle or it is too long.
+-- moment of the run may have left is the same of the stored ones and some first of those that were made. Where one
+-- of these is durable the journal is within its limit. Where a report was given it is that of the job's end, and
+-- nothing follows the bundle or it is too long.
 pub record Imported (counted : Option ℕ) (files : Files) (consumed : List ℕ → Type 0) (at_end : Type 0) (images : List ℕ → Type 0)
     (leaves : (List ℕ → Type 0) → Type 0) (gives : List ℕ → Type 0) (result : Status) : Type 0 where
   pub keyring : Contents
@@ -229,6 +230,7 @@ pub record Imported (counted : Option ℕ) (files : Files) (consumed : List ℕ 
   pub end : ℕ
   pub history : List Item
   pub made : IsMadeOf (fault_of result) rid end entries history
+  pub room : IfSome files.store (λ _. EndsWithin end history)
   pub end_is : IfSome files.store (λ _. end ≡ gate_behind (bodies_of (durable_part (stored ++ history))))
   pub images_are : IfSome files.store (λ _. (image : List ℕ) → images image → IsImageOf (stored ++ history) image)
   pub legal : IfSome files.store (λ _. (image : List ℕ) → images image → ReopensLegal keyring image)

@@ -75,7 +75,8 @@ fn run_command<D: Disk, S: Source, I: Source, W: Sink>(
 ///   given.
 /// - `DiskFault`: a call of the disk failed.
 /// - `Unmade`: no store is made: the disk has fewer than 9 bytes, or its first is not 1.
-/// - `Damaged`: the disk's bytes are no journal of entries; the least place that shows it.
+/// - `Damaged`: the disk's bytes are no journal, from this least place on; or a journal whose least
+///   body that is no entry's stands behind this gate.
 /// - `KeyringBad`: the keyring file's first broken line, or 0 where the file has more than
 ///   268,435,456 bytes.
 /// - `InputBad`: the bundle is broken, ends inside a unit, or has ended and bytes follow; the place

@@ -1,5 +1,5 @@
 -- What the calls of a store add to its entries.
-use Rattle.std.proofs.Common.{◌≡◌, ◌⊎◌, ℕ, List, [], ◌∷◌, ◌++◌, map, Option, None, Some, inl, inr, refl, sym, ap, subst, ◌∙◌, append_assoc}
+use Rattle.std.proofs.Common.{◌≡◌, ◌⊎◌, ℕ, ◌<◌, ◌^◌, List, [], ◌∷◌, ◌++◌, map, Option, None, Some, inl, inr, refl, sym, ap, subst, ◌∙◌, append_assoc}
 use Rattle.std.specs.List.{AllByRecursion}
 use Rattle.std.proofs.lemmas.List.{append-nil, map-append}
 use Rattle.rad_base.specs.declared.names.Rid.{Rid}
@@ -29,11 +29,12 @@ use Rattle.object_store.specs.declared.store.Store.{Store}
 use Rattle.object_store.proofs.Holding.{claimant_is, held_is}
 use Rattle.store_keep.specs.Calls.{Adds, Stops}
 use Rattle.store_keep.specs.Kept.{may_call}
-use Rattle.store_keep.specs.Made.{IsDoubtKnown, IsImageOf, IsMade, IsPastImage, ReopensLegal, Start, no_claims}
+use Rattle.store_keep.specs.Made.{EndsWithin, IsDoubtKnown, IsImageOf, IsMade, IsPastImage, ReopensLegal, Start, no_claims}
 use Rattle.store_keep.proofs.Claimless.{same_last}
 use Rattle.store_keep.proofs.Going.{Goes, IsOf, added_by, adds_of, goes_none, runs_go}
 use Rattle.store_keep.proofs.Imaging.{core_image, core_legal}
 use Rattle.legal_history.specs.Histories.{Legal}
+use Rattle.legal_history.proofs.Durables.{durable-append}
 
 -- what two runs of events add
 added_along : (xs ys : List Event) → added_by (xs ++ ys) ≡ added_by xs ++ added_by ys
@@ -43,6 +44,17 @@ added_along (event ∷ xs) ys = ap (λ (l : List Item). adds_of event ++ l) (add
 each_front : {X : Type 0} (P : X → Type 0) (xs ys : List X) → AllByRecursion P (xs ++ ys) → AllByRecursion P xs
 each_front P [] ys each = tt
 each_front P (x ∷ xs) ys each = (each.0, each_front P xs ys each.1)
+
+-- a step that adds these entries: none of them is durable and the end stays, or the end is within the limit
+abbrev pub StepsWithin : ℕ → ℕ → List Item → Type 0
+StepsWithin old new added = ((durable_part added ≡ []) × (new ≡ old)) ⊎ (new < 2 ^ 40)
+
+-- room behind a step
+within_along : (old new : ℕ) (before added : List Item) → EndsWithin old before → StepsWithin old new added → EndsWithin new (before ++ added)
+within_along old new before added h (inr fits) = inr fits
+within_along old new before added (inl none) (inl step) =
+    inl (durable-append before added ∙ ap (λ (l : List Item). l ++ durable_part added) none ∙ step.0)
+within_along old new before added (inr fits) (inl step) = inr (subst (λ (n : ℕ). n < 2 ^ 40) (sym step.1) fits)
 
 module _ {D : Type 0} (reads : D → Option (List ℕ)) (images : D → List ℕ → Type 0) (moment : D → ℕ) (since : D → ℕ → List ℕ → Type 0) where
   module _ (rid : Rid) (caller : ℕ) (old new : Store D) (k : new.keyring ≡ old.keyring) where
@@ -115,9 +127,9 @@ module _ {D : Type 0} (reads : D → Option (List ℕ)) (images : D → List ℕ
         }
 
     -- what was made before is made, with these
-    went_made : (added : List Item) (start : Start D) (before : List Item) → (h : IsMade reads images moment since old start before) → Went h.core added
-        → IsMade reads images moment since new start (before ++ added)
-    went_made added start before h w = record {
+    went_made : (added : List Item) (start : Start D) (before : List Item) → (h : IsMade reads images moment since old start before) → StepsWithin old.journal.end new.journal.end added
+        → Went h.core added → IsMade reads images moment since new start (before ++ added)
+    went_made added start before h step w = record {
       core = w.next;
       entries = ap (λ (l : List Item). l ++ added) h.entries ∙ sym w.goes.entries;
       stands = w.stands;
@@ -125,6 +137,7 @@ module _ {D : Type 0} (reads : D → Option (List ℕ)) (images : D → List ℕ
       doubt = subst (λ (keyring : Contents). IsDoubtKnown keyring w.next) (sym k) (w.goes.doubt h.doubt);
       added = h.added ++ added;
       all = ap (λ (l : List Item). l ++ added) h.all ∙ append_assoc start.items h.added added;
+      room = within_along old.journal.end new.journal.end h.added added h.room step;
       time =
           let Past = IsPastImage new.keyring start.items (before ++ added) in
           leaves_both Past (moment start.disk) (moment old.journal.disk) (moment new.journal.disk) (since start.disk) (since old.journal.disk) (since new.journal.disk)
@@ -135,12 +148,12 @@ module _ {D : Type 0} (reads : D → Option (List ℕ)) (images : D → List ℕ
     }
 
     -- from every core on
-    pub adds_by : (added : List Item) → StandsForSome old → ((core : Core) → StandsFor old core.items → Went core added) → Adds reads images moment since rid caller old new added
-    adds_by added stands each =
+    pub adds_by : (added : List Item) → StepsWithin old.journal.end new.journal.end added → StandsForSome old → ((core : Core) → StandsFor old core.items → Went core added) → Adds reads images moment since rid caller old new added
+    adds_by added step stands each =
         let first = each (record { items = stands.0; doubt = None }) stands.1 in
         record {
           keyring = k;
-          made = λ start before h. went_made added start before h (each h.core h.stands);
+          made = λ start before h. went_made added start before h step (each h.core h.stands);
           callable = λ q.
               ap (λ (n : ℕ). may_call caller n) (claimant_is new q first.next.items first.stands) ∙ first.goes.callable q
               ∙ sym (ap (λ (n : ℕ). may_call caller n) (claimant_is old q stands.0 stands.1));
@@ -152,13 +165,13 @@ module _ {D : Type 0} (reads : D → Option (List ℕ)) (images : D → List ℕ
         }
 
     -- events of every core
-    pub adds_moved : (events : List Event) → AllByRecursion (IsOf rid caller) events → StandsForSome old
+    pub adds_moved : (events : List Event) → AllByRecursion (IsOf rid caller) events → StepsWithin old.journal.end new.journal.end (added_by events) → StandsForSome old
         → ((core : Core) → StandsFor old core.items → Moves reads images moment since old new core events) → Adds reads images moment since rid caller old new (added_by events)
-    adds_moved events is stands each = adds_by (added_by events) stands (λ core s. went core events is s (each core s))
+    adds_moved events is step stands each = adds_by (added_by events) step stands (λ core s. went core events is s (each core s))
 
     -- a store that stays stands for the same
     pub adds_still : ((disk : D) (image : List ℕ) → since disk (moment disk) image → images disk image) → new.journal ≡ old.journal → StandsForSome old → ((items : List Item) → StandsFor old items → StandsFor new items) → Adds reads images moment since rid caller old new []
-    adds_still now j stands keeps = adds_by [] stands (λ core s. record {
+    adds_still now j stands keeps = adds_by [] (inl (refl, ap (λ (x : Journal D). x.end) j)) stands (λ core s. record {
       next = core;
       goes = goes_none old.keyring rid caller core s.legal;
       stands = keeps core.items s;
@@ -236,13 +249,13 @@ module _ {D : Type 0} (reads : D → Option (List ℕ)) (images : D → List ℕ
     missed_by IsOne core item is one s (inr (inr m)) = (lefts.Nothing, inl refl, missed_only core s m)
 
     -- from every core on it left the same
-    pub adds_missed : (IsOne : Item → Type 0) → StandsForSome old → ((core : Core) → StandsFor old core.items → (left : Left) × Names IsOne left × Missed core left)
+    pub adds_missed : (IsOne : Item → Type 0) → new.journal.end ≡ old.journal.end → StandsForSome old → ((core : Core) → StandsFor old core.items → (left : Left) × Names IsOne left × Missed core left)
         → (left : Left) × Names IsOne left × Adds reads images moment since rid caller old new (missed (Some rid) left caller ∷ [])
-    adds_missed IsOne stands each =
+    adds_missed IsOne stays stands each =
         let first = each (record { items = stands.0; doubt = None }) stands.1 in (
           first.0,
           first.1,
-          adds_by (missed (Some rid) first.0 caller ∷ []) stands (λ core s.
+          adds_by (missed (Some rid) first.0 caller ∷ []) (inl (refl, stays)) stands (λ core s.
               let here = each core s in
               subst (λ (left : Left). Went core (missed (Some rid) left caller ∷ []))
               (one_left core (record { items = stands.0; doubt = None }) here.0 first.0 here.2 first.2) here.2.went),

@@ -13,6 +13,7 @@ use Rattle.rad_base.specs.declared.offer.Offer.{Offer}
 use Rattle.rad_base.proofs.Options.{some_is}
 use Rattle.commit_graph.specs.Objects.{Object, ObjectMap}
 use Rattle.keyring.specs.Contents.{Contents}
+use Rattle.ref_journal.specs.declared.journal.Journal.{Journal}
 use Rattle.repo_entries.specs.Items.{Item, left_of, missed, put, refused}
 use Rattle.repo_entries.specs.declared.whole.Whole.{Whole}
 use Rattle.repo_entries.specs.declared.entry.Left.{Left}
@@ -57,11 +58,14 @@ may_itself caller n some may = by_zero (eqb_tells n 0)
 module _ {D : Type 0} (reads : D → Option (List ℕ)) (images : D → List ℕ → Type 0) (moment : D → ℕ) (since : D → ℕ → List ℕ → Type 0) (rid : Rid) (caller : ℕ) where
   -- ---- claims
 
-  pub claim_adds : (old new : Store D) (result : Result (Unit {0}) ClaimFault) → new.keyring ≡ old.keyring → StandsForSome old
+  pub claim_adds : (old new : Store D) (result : Result (Unit {0}) ClaimFault) → new.keyring ≡ old.keyring → new.journal ≡ old.journal → StandsForSome old
       → ((core : Core) → StandsFor old core.items → IsClaiming reads images moment since old new core rid caller result) → Adds reads images moment since rid caller old new []
-  claim_adds old new (Ok done) k stands each = adds_moved reads images moment since rid caller old new k (claims rid caller ∷ []) ((refl, refl), tt) stands each
-  claim_adds old new (Err (claimed.Claimed by)) k stands each = adds_moved reads images moment since rid caller old new k [] tt stands (λ core s. (each core s).0)
-  claim_adds old new (Err claimed.NoMemory) k stands each = adds_moved reads images moment since rid caller old new k [] tt stands each
+  claim_adds old new (Ok done) k j stands each =
+      adds_moved reads images moment since rid caller old new k (claims rid caller ∷ []) ((refl, refl), tt) (inl (refl, ap (λ (x : Journal D). x.end) j)) stands each
+  claim_adds old new (Err (claimed.Claimed by)) k j stands each =
+      adds_moved reads images moment since rid caller old new k [] tt (inl (refl, ap (λ (x : Journal D). x.end) j)) stands (λ core s. (each core s).0)
+  claim_adds old new (Err claimed.NoMemory) k j stands each =
+      adds_moved reads images moment since rid caller old new k [] tt (inl (refl, ap (λ (x : Journal D). x.end) j)) stands each
 
   -- what is refused as it is claimed, is claimed by the caller
   pub claimed_itself : (old new : Store D) (by : ℕ) → 1 ≤ caller → StandsForSome old → IsTrue (may_call caller (claimant_of old rid)) → KeepsClaims old new
@@ -122,17 +126,17 @@ module _ {D : Type 0} (reads : D → Option (List ℕ)) (images : D → List ℕ
       → (2 ^ 40 < old.journal.end + 10 + put_size batch → IsErrOf result fault.Full ⊎ IsErrOf result fault.NoMemory)
       → OnOk result (new.journal.end ≡ old.journal.end + 9 + put_size batch) → OnErr result (new.journal.end ≡ old.journal.end)
       → Puts reads images moment since rid caller batch old new result
-  puts_by batch old new (Ok done) k stands each full only end stays = (
-    adds_moved reads images moment since rid caller old new k (mends ∷ enters (put rid batch caller) ∷ []) (tt, (refl, tt)) stands each,
-    let fits : 2 ^ 40 < old.journal.end + 10 + put_size batch → ⊥ = λ more. never (Ok done) refl (only more) in omega (arith, fits, end),
-  )
+  puts_by batch old new (Ok done) k stands each full only end stays =
+      let fits : 2 ^ 40 < old.journal.end + 10 + put_size batch → ⊥ = λ more. never (Ok done) refl (only more) in
+      let room : new.journal.end < 2 ^ 40 = omega (arith, fits, end) in
+      (adds_moved reads images moment since rid caller old new k (mends ∷ enters (put rid batch caller) ∷ []) (tt, (refl, tt)) (inr room) stands each, room)
     where
       never : (r : Result (Unit {0}) KeepFault) → r ≡ Ok done → IsErrOf r fault.Full ⊎ IsErrOf r fault.NoMemory → ⊥
       never r is (inl e) = not_ok done fault.Full (sym is ∙ e)
       never r is (inr e) = not_ok done fault.NoMemory (sym is ∙ e)
   puts_by batch old new (Err fault.DiskFault) k stands each full only end stays =
       let item = put rid batch caller in
-      let m = adds_missed reads images moment since rid caller old new k (λ (x : Item). x ≡ item) stands (λ core s.
+      let m = adds_missed reads images moment since rid caller old new k (λ (x : Item). x ≡ item) stays stands (λ core s.
       missed_by reads images moment since rid caller old new k (λ (x : Item). x ≡ item) core item refl refl s (each core s)) in
       stops_missed reads images moment since rid caller old new item m.0 stands (named m.0 m.1) m.2
     where
@@ -140,11 +144,11 @@ module _ {D : Type 0} (reads : D → Option (List ℕ)) (images : D → List ℕ
       named left (inl none) = inl none
       named left (inr is) = inr (is.2 ∙ ap left_of is.1)
   puts_by batch old new (Err fault.Full) k stands each full only end stays =
-      stops_full reads images moment since rid caller old new (put rid batch caller) stands (adds_moved reads images moment since rid caller old new k [] tt stands each)
+      stops_full reads images moment since rid caller old new (put rid batch caller) stands (adds_moved reads images moment since rid caller old new k [] tt (inl (refl, stays)) stands each)
       (λ fits. let more = full refl in omega (arith, more, fits, stays))
   puts_by batch old new (Err (fault.Changed change)) k stands each full only end stays = absurd (each (record { items = stands.0; doubt = None }) stands.1)
   puts_by batch old new (Err fault.NoMemory) k stands each full only end stays =
-      stops_for_memory reads images moment since rid caller old new (put rid batch caller ∷ []) stands (adds_moved reads images moment since rid caller old new k [] tt stands each)
+      stops_for_memory reads images moment since rid caller old new (put rid batch caller ∷ []) stands (adds_moved reads images moment since rid caller old new k [] tt (inl (refl, stays)) stands each)
 
   pub puts_behind : (batch : List Object) (old mid new : Store D) (result : Result (Unit {0}) KeepFault) → StandsForSome old → Adds reads images moment since rid caller old mid []
       → Puts reads images moment since rid caller batch mid new result → Puts reads images moment since rid caller batch old new result
@@ -202,17 +206,18 @@ module _ {D : Type 0} (reads : D → Option (List ℕ)) (images : D → List ℕ
         → ((core : Core) → StandsFor old core.items → IsInstall reads images moment since old new core rid offer scope caller result)
         → IfOk result (JournalHadRoom old.journal.end rid caller) → EndsBehind old.journal.end new.journal.end result → Installs reads images moment since rid caller offer scope old new result
     installs_by old new (Ok (Ok judged)) k stands each room end =
-        let adds = adds_moved reads images moment since rid caller old new k (mends ∷ enters (install_of rid caller judged) ∷ []) (tt, (refl, tt)) stands (λ core s. (each core s).1) in (
+        let fits : new.journal.end < 2 ^ 40 = omega (arith, room, end) in
+        let adds = adds_moved reads images moment since rid caller old new k (mends ∷ enters (install_of rid caller judged) ∷ []) (tt, (refl, tt)) (inr fits) stands (λ core s. (each core s).1) in (
           verdict_for old stands.0 (Ok judged) stands.1 (each (record { items = stands.0; doubt = None }) stands.1).0,
-          record { adds = adds; behind = installed_held old new judged stands each adds; room = omega (arith, room, end) },
+          record { adds = adds; behind = installed_held old new judged stands each adds; room = fits },
         )
     installs_by old new (Ok (Err why)) k stands each room end =
-        let adds = adds_moved reads images moment since rid caller old new k (refuses rid why caller ∷ []) (tt, tt) stands (λ core s. (each core s).1) in (
+        let adds = adds_moved reads images moment since rid caller old new k (refuses rid why caller ∷ []) (tt, tt) (inl (refl, end)) stands (λ core s. (each core s).1) in (
           verdict_for old stands.0 (Err why) stands.1 (each (record { items = stands.0; doubt = None }) stands.1).0,
           record { adds = adds; behind = refused_held old new why stands adds; room = tt },
         )
     installs_by old new (Err fault.DiskFault) k stands each room end =
-        let m = adds_missed reads images moment since rid caller old new k (IsVerdictItem old) stands (λ core s.
+        let m = adds_missed reads images moment since rid caller old new k (IsVerdictItem old) end stands (λ core s.
         let told = each core s in
         missed_by reads images moment since rid caller old new k (IsVerdictItem old) core (install_of rid caller told.0) refl (told.0, verdict_for old core.items (Ok told.0) s told.1, refl) s told.2) in
         by_name m.0 m.2 m.1
@@ -224,7 +229,7 @@ module _ {D : Type 0} (reads : D → Option (List ℕ)) (images : D → List ℕ
             inr (judged, verdict, stops_missed reads images moment since rid caller old new (install_of rid caller judged) left stands (inr (named ∙ ap left_of is)) adds)
     installs_by old new (Err fault.Full) k stands each room end =
         let told = each (record { items = stands.0; doubt = None }) stands.1 in
-        let adds = adds_moved reads images moment since rid caller old new k [] tt stands (λ core s. (each core s).3) in
+        let adds = adds_moved reads images moment since rid caller old new k [] tt (inl (refl, end)) stands (λ core s. (each core s).3) in
         inr (
           told.0,
           verdict_for old stands.0 (Ok told.0) stands.1 told.1,
@@ -232,7 +237,7 @@ module _ {D : Type 0} (reads : D → Option (List ℕ)) (images : D → List ℕ
         )
     installs_by old new (Err (fault.Changed change)) k stands each room end = absurd (each (record { items = stands.0; doubt = None }) stands.1)
     installs_by old new (Err fault.NoMemory) k stands each room end =
-        inl (stops_for_memory reads images moment since rid caller old new [] stands (adds_moved reads images moment since rid caller old new k [] tt stands each))
+        inl (stops_for_memory reads images moment since rid caller old new [] stands (adds_moved reads images moment since rid caller old new k [] tt (inl (refl, end)) stands each))
 
     -- behind a claim
     verdict_behind : (old mid : Store D) (verdict : Result Judged Whole) → StandsForSome old → Adds reads images moment since rid caller old mid [] → IsVerdictFor mid rid caller offer scope verdict

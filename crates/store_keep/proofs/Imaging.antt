@@ -116,6 +116,7 @@ opened_made reads images moment since now store items bodies stands holds =
       doubt = known;
       added = [];
       all = sym none;
+      room = inl refl;
       time = leaves_none (IsLeft (bodies_of items) None store.journal.end) (IsPastImage store.keyring items items) (moment disk) (reads disk) (since disk) (images disk)
           (λ image left.
           let has : MayHave (bodies_of (durable_part items)) None image = subst (λ (l : List Item). HasBodies (bodies_of l) image) (sym durable) (left_has (bodies_of items) None store.journal.end image left) in

@@ -1,5 +1,5 @@
 -- The entries that a store has, its claims left out, and what its images are by them.
-use Rattle.std.specs.Prelude.{◌≡◌, ◌⊎◌, ℕ, List, [], ◌∷◌, ◌++◌, Option, Some}
+use Rattle.std.specs.Prelude.{◌≡◌, ◌⊎◌, ℕ, ◌<◌, ◌^◌, List, [], ◌∷◌, ◌++◌, Option, Some}
 use Rattle.std.specs.List.{AllByRecursion}
 use Rattle.rad_base.specs.declared.names.Rid.{Rid}
 use Rattle.keyring.specs.Contents.{Contents}
@@ -74,14 +74,18 @@ pub record IsPastImage (keyring : Contents) (first items : List Item) (image : L
   pub has : IsImageOf (first ++ done) image
   pub legal : ReopensLegal keyring image
 
+-- a journal with this end was within its limit when it got the last of these entries that is durable
+abbrev pub EndsWithin : ℕ → List Item → Type 0
+EndsWithin end items = (durable_part items ≡ []) ⊎ (end < 2 ^ 40)
+
 -- a disk as it was at a moment, and the entries that stood then
 pub record Start (D : Type 0) : Type 0 where
   pub disk : D
   pub items : List Item
 
 -- The store stands for these entries and its claims, its disk tells their durable part, and what is
--- in doubt is known. The entries of the start come first, and a crash at any moment since the start
--- leaves an image of the first of the entries.
+-- in doubt is known. The entries of the start come first, and the journal had room for those behind
+-- them. A crash at any moment since the start leaves an image of the first of the entries.
 pub record IsMade {D : Type 0} (reads : D → Option (List ℕ)) (images : D → List ℕ → Type 0)
     (moment : D → ℕ) (since : D → ℕ → List ℕ → Type 0) (store : Store D) (start : Start D)
     (items : List Item) : Type 0 where
@@ -92,5 +96,6 @@ pub record IsMade {D : Type 0} (reads : D → Option (List ℕ)) (images : D →
   pub doubt : IsDoubtKnown store.keyring core
   pub added : List Item
   pub all : items ≡ start.items ++ added
+  pub room : EndsWithin store.journal.end added
   pub time : LeavesOnlyBetween moment since start.disk store.journal.disk
       (IsPastImage store.keyring start.items items)

@@ -4,21 +4,21 @@ use Rattle.store_keep.proofs.calls.claim_for.Goals as goal
 
 pub returns-in-Ok-clause-adds : goal.returns-in-Ok-clause-adds
 returns-in-Ok-clause-adds g c =
-    claim_adds g.D.Disk.reads_as g.D.Disk.images g.D.Disk.moment g.D.Disk.images_since c.args.rid.now c.args.caller c.args.store.now c.claim.new.self c.claim.result c.claim.ensures.keyring c.requires.stands c.claim.ensures.events
+    claim_adds g.D.Disk.reads_as g.D.Disk.images g.D.Disk.moment g.D.Disk.images_since c.args.rid.now c.args.caller c.args.store.now c.claim.new.self c.claim.result c.claim.ensures.keyring c.claim.ensures.journal c.requires.stands c.claim.ensures.events
 
 pub returns-in-Ok-clause-stands : goal.returns-in-Ok-clause-stands
 returns-in-Ok-clause-stands g c =
     stands_then g.D.Disk.reads_as g.D.Disk.images g.D.Disk.moment g.D.Disk.images_since c.args.rid.now c.args.caller c.args.store.now c.claim.new.self [] c.requires.stands
-    (claim_adds g.D.Disk.reads_as g.D.Disk.images g.D.Disk.moment g.D.Disk.images_since c.args.rid.now c.args.caller c.args.store.now c.claim.new.self c.claim.result c.claim.ensures.keyring c.requires.stands c.claim.ensures.events)
+    (claim_adds g.D.Disk.reads_as g.D.Disk.images g.D.Disk.moment g.D.Disk.images_since c.args.rid.now c.args.caller c.args.store.now c.claim.new.self c.claim.result c.claim.ensures.keyring c.claim.ensures.journal c.requires.stands c.claim.ensures.events)
 
 pub returns-in-Err-Claimed-clause-adds : goal.returns-in-Err-Claimed-clause-adds
 returns-in-Err-Claimed-clause-adds g c =
-    claim_adds g.D.Disk.reads_as g.D.Disk.images g.D.Disk.moment g.D.Disk.images_since c.args.rid.now c.args.caller c.args.store.now c.claim.new.self c.claim.result c.claim.ensures.keyring c.requires.stands c.claim.ensures.events
+    claim_adds g.D.Disk.reads_as g.D.Disk.images g.D.Disk.moment g.D.Disk.images_since c.args.rid.now c.args.caller c.args.store.now c.claim.new.self c.claim.result c.claim.ensures.keyring c.claim.ensures.journal c.requires.stands c.claim.ensures.events
 
 pub returns-in-Err-Claimed-clause-stands : goal.returns-in-Err-Claimed-clause-stands
 returns-in-Err-Claimed-clause-stands g c =
     stands_then g.D.Disk.reads_as g.D.Disk.images g.D.Disk.moment g.D.Disk.images_since c.args.rid.now c.args.caller c.args.store.now c.claim.new.self [] c.requires.stands
-    (claim_adds g.D.Disk.reads_as g.D.Disk.images g.D.Disk.moment g.D.Disk.images_since c.args.rid.now c.args.caller c.args.store.now c.claim.new.self c.claim.result c.claim.ensures.keyring c.requires.stands c.claim.ensures.events)
+    (claim_adds g.D.Disk.reads_as g.D.Disk.images g.D.Disk.moment g.D.Disk.images_since c.args.rid.now c.args.caller c.args.store.now c.claim.new.self c.claim.result c.claim.ensures.keyring c.claim.ensures.journal c.requires.stands c.claim.ensures.events)
 
 pub returns-in-Err-Claimed-clause-claimed : goal.returns-in-Err-Claimed-clause-claimed
 returns-in-Err-Claimed-clause-claimed g c =
@@ -27,9 +27,9 @@ returns-in-Err-Claimed-clause-claimed g c =
 
 pub returns-in-Err-NoMemory-clause-adds : goal.returns-in-Err-NoMemory-clause-adds
 returns-in-Err-NoMemory-clause-adds g c =
-    claim_adds g.D.Disk.reads_as g.D.Disk.images g.D.Disk.moment g.D.Disk.images_since c.args.rid.now c.args.caller c.args.store.now c.claim.new.self c.claim.result c.claim.ensures.keyring c.requires.stands c.claim.ensures.events
+    claim_adds g.D.Disk.reads_as g.D.Disk.images g.D.Disk.moment g.D.Disk.images_since c.args.rid.now c.args.caller c.args.store.now c.claim.new.self c.claim.result c.claim.ensures.keyring c.claim.ensures.journal c.requires.stands c.claim.ensures.events
 
 pub returns-in-Err-NoMemory-clause-stands : goal.returns-in-Err-NoMemory-clause-stands
 returns-in-Err-NoMemory-clause-stands g c =
     stands_then g.D.Disk.reads_as g.D.Disk.images g.D.Disk.moment g.D.Disk.images_since c.args.rid.now c.args.caller c.args.store.now c.claim.new.self [] c.requires.stands
-    (claim_adds g.D.Disk.reads_as g.D.Disk.images g.D.Disk.moment g.D.Disk.images_since c.args.rid.now c.args.caller c.args.store.now c.claim.new.self c.claim.result c.claim.ensures.keyring c.requires.stands c.claim.ensures.events)
+    (claim_adds g.D.Disk.reads_as g.D.Disk.images g.D.Disk.moment g.D.Disk.images_since c.args.rid.now c.args.caller c.args.store.now c.claim.new.self c.claim.result c.claim.ensures.keyring c.claim.ensures.journal c.requires.stands c.claim.ensures.events)
