@@ -36,10 +36,10 @@ def add_chain(made: Made, count: int) -> bytes:
 class Generated:
     """The generator's repository: its sections, and the commits that hold it."""
 
-    def __init__(self, count: int) -> None:
+    def __init__(self, count: int, document_text: str = DOCUMENT) -> None:
         identity, signed, tips = Made(), Made(), Made()
         self.tip = add_chain(tips, count)
-        document = identity.blob(DOCUMENT.encode())
+        document = identity.blob(document_text.encode())
         embeds = identity.add(Kind.TREE, write_tree([TreeEntry(b"100644", b"radicle.json",
                                                                document)]))
         self.identity = add_commit(identity, DIRECTORY, {b"embeds": embeds}, None, b"id")
