@@ -60,7 +60,8 @@ for example:
 exit status: 0 done; 1 no command; 2 a file is not read; 3 the report is not written; 4 the store's
 file failed; 5 no store is made; 6 the store is damaged; 7 the keyring is broken at a line; 9 the
 bundle is broken at a byte; 10 something was refused; 11 the store is full; 12 an entry of the store
-is not legal under the keyring; 13 a store is made already; 70 no memory
+is not legal under the keyring; 13 a store is made already; 15 an object that is read back is
+another, which no command meets yet; 70 no memory
 ";
 
 const VERSION: &str = "rad_node 0.1.0\n";
