@@ -305,32 +305,64 @@ fn each_refusal_has_its_status(rt: HostRuntime) -> Result<(), Fail> {
     let left = run(alloc, &good)?;
     assert_eq!(rt; left.status, Status::Ok);
     let full = left.disk.bytes();
-    let keyring = made.keyring.as_slice();
-    let nine = full.get(..9).unwrap_or(&[]);
-    let cases: [(&[&str], &[u8], &[u8], Status); 7] = [
-        (IMPORT, &[], keyring, Status::Unmade),
-        (IMPORT, b"\x01radjrx\x01\x00", keyring, Status::Damaged(0)),
-        (AUDIT, nine, keyring, Status::Damaged(8)),
-        (IMPORT, MADE, b"own 61\nname\n", Status::KeyringBad(2)),
-        (IMPORT, MADE, &[], Status::SomeRefused),
-        (SHOW, full, &[], Status::NotLegal(4)),
-        (INIT, full, keyring, Status::AlreadyMade),
+    let damaged = &full[..full.len().saturating_sub(1)];
+    let cases = [
+        (Given { store: &[], ..good }, Status::Unmade),
+        (
+            Given {
+                store: b"\x01radjrx\x01\x00",
+                ..good
+            },
+            Status::Damaged(0),
+        ),
+        (
+            Given {
+                words: AUDIT,
+                store: full.get(..9).unwrap_or(&[]),
+                ..good
+            },
+            Status::Damaged(8),
+        ),
+        (
+            Given {
+                keyring: b"own 61\nname\n",
+                ..good
+            },
+            Status::KeyringBad(2),
+        ),
+        (
+            Given {
+                keyring: &[],
+                ..good
+            },
+            Status::SomeRefused,
+        ),
+        (
+            Given {
+                words: SHOW,
+                store: full,
+                keyring: &[],
+                ..good
+            },
+            Status::NotLegal(4),
+        ),
+        (
+            Given {
+                words: INIT,
+                store: full,
+                ..good
+            },
+            Status::AlreadyMade,
+        ),
     ];
-    for (words, store, keyring, status) in &cases {
-        let handed = Given {
-            words,
-            store,
-            keyring,
-            ..good
-        };
-        let left = run(alloc, &handed)?;
+    for (handed, status) in &cases {
+        let left = run(alloc, handed)?;
         assert_eq!(rt; left.status, *status);
         if *status != Status::SomeRefused {
-            assert_eq!(rt; left.disk.bytes(), *store);
+            assert_eq!(rt; left.disk.bytes(), handed.store);
             assert!(rt; left.report.is_empty());
         }
     }
-    let damaged = &full[..full.len().saturating_sub(1)];
     assert!(rt; entries_in(alloc, damaged)?.is_none());
     Ok(())
 }
