@@ -293,77 +293,81 @@ fn a_broken_bundle_is_told_by_its_place(rt: HostRuntime) -> Result<(), Fail> {
     Ok(())
 }
 
+// How a run ends, and whether it left the store as it was and gave no report.
+fn end_of(alloc: Global, handed: &Given<'_>) -> Result<(Status, bool), Fail> {
+    let left = run(alloc, handed)?;
+    let is_same = left.disk.bytes() == handed.store;
+    Ok((left.status, is_same && left.report.is_empty()))
+}
+
 #[test]
-fn each_refusal_has_its_status(rt: HostRuntime) -> Result<(), Fail> {
-    let alloc = rt.alloc();
-    let made = bundle_of(alloc, 1)?;
+fn a_store_is_refused_by_its_bytes(rt: HostRuntime) -> Result<(), Fail> {
+    let made = bundle_of(rt.alloc(), 1)?;
     let good = Given {
         keyring: made.keyring.as_slice(),
         bundle: made.bundle.as_slice(),
         ..GIVEN
     };
-    let left = run(alloc, &good)?;
-    assert_eq!(rt; left.status, Status::Ok);
-    let full = left.disk.bytes();
-    let damaged = &full[..full.len().saturating_sub(1)];
+    let full = run(rt.alloc(), &good)?.disk.bytes().to_vec(rt.alloc())?;
+    let cut = &full[..full.len().saturating_sub(1)];
+    assert!(rt; entries_in(rt.alloc(), cut)?.is_none());
+    let other = Given {
+        store: b"\x01radjrx\x01\x00",
+        ..good
+    };
+    let nine = Given {
+        words: AUDIT,
+        store: full.get(..9).unwrap_or(&[]),
+        ..good
+    };
+    let made_before = Given {
+        words: INIT,
+        store: &full,
+        ..good
+    };
     let cases = [
         (Given { store: &[], ..good }, Status::Unmade),
-        (
-            Given {
-                store: b"\x01radjrx\x01\x00",
-                ..good
-            },
-            Status::Damaged(0),
-        ),
-        (
-            Given {
-                words: AUDIT,
-                store: full.get(..9).unwrap_or(&[]),
-                ..good
-            },
-            Status::Damaged(8),
-        ),
-        (
-            Given {
-                keyring: b"own 61\nname\n",
-                ..good
-            },
-            Status::KeyringBad(2),
-        ),
-        (
-            Given {
-                keyring: &[],
-                ..good
-            },
-            Status::SomeRefused,
-        ),
-        (
-            Given {
-                words: SHOW,
-                store: full,
-                keyring: &[],
-                ..good
-            },
-            Status::NotLegal(4),
-        ),
-        (
-            Given {
-                words: INIT,
-                store: full,
-                ..good
-            },
-            Status::AlreadyMade,
-        ),
+        (other, Status::Damaged(0)),
+        (nine, Status::Damaged(8)),
+        (made_before, Status::AlreadyMade),
     ];
     for (handed, status) in &cases {
-        let left = run(alloc, handed)?;
-        assert_eq!(rt; left.status, *status);
-        if *status != Status::SomeRefused {
-            assert_eq!(rt; left.disk.bytes(), handed.store);
-            assert!(rt; left.report.is_empty());
-        }
+        assert_eq!(rt; end_of(rt.alloc(), handed)?, (*status, true));
     }
-    assert!(rt; entries_in(alloc, damaged)?.is_none());
+    Ok(())
+}
+
+#[test]
+fn a_keyring_is_refused_or_refuses(rt: HostRuntime) -> Result<(), Fail> {
+    let made = bundle_of(rt.alloc(), 1)?;
+    let good = Given {
+        keyring: made.keyring.as_slice(),
+        bundle: made.bundle.as_slice(),
+        ..GIVEN
+    };
+    let full = run(rt.alloc(), &good)?.disk.bytes().to_vec(rt.alloc())?;
+    let broken = Given {
+        keyring: b"own 61\nname\n",
+        ..good
+    };
+    let without = Given {
+        words: SHOW,
+        store: &full,
+        keyring: &[],
+        ..good
+    };
+    let cases = [
+        (broken, Status::KeyringBad(2)),
+        (without, Status::NotLegal(4)),
+    ];
+    for (handed, status) in &cases {
+        assert_eq!(rt; end_of(rt.alloc(), handed)?, (*status, true));
+    }
+    let refused = Given {
+        keyring: &[],
+        ..good
+    };
+    assert_eq!(rt; run(rt.alloc(), &refused)?.status, Status::SomeRefused);
     Ok(())
 }
 
