@@ -9,3 +9,4 @@ pub mod FramesSpelled
 pub mod MessageTexts
 pub mod OneFrame
 pub mod OneMessage
+pub mod Recordings

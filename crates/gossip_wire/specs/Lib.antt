@@ -4,3 +4,4 @@ pub mod Frames
 pub mod FramesSpelled
 pub mod Judging
 pub mod Messages
+pub mod Recordings

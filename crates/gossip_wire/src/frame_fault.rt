@@ -1,4 +1,6 @@
 // Why reading frames stops.
+ghost use Rattle.std.specs.Prelude.{◌≡◌};
+ghost use Rattle.gossip_wire.specs.Recordings.{place_of};
 
 /// Why reading frames stops, and where, in bytes from the first.
 #[derive(Clone, Copy, Debug, PartialEq, Eq)]
@@ -15,4 +17,21 @@ pub enum FrameFault {
     BadBody(u64),
     /// Memory was refused.
     NoMemory,
+}
+
+impl FrameFault {
+    /// Where the broken unit begins, or its first wrong byte stands, in bytes from the first; `None`
+    /// where memory was refused.
+    pub fn place(self) -> Option<u64>
+        ensures { result ≡ place_of self }
+    {
+        match self {
+            FrameFault::BadMagic(place) => Some(place),
+            FrameFault::LongVarint(place) => Some(place),
+            FrameFault::TooLong(place) => Some(place),
+            FrameFault::BadKind(place) => Some(place),
+            FrameFault::BadBody(place) => Some(place),
+            FrameFault::NoMemory => None,
+        }
+    }
 }

@@ -4,12 +4,14 @@ ghost use Rattle.std.specs.Prelude.{IfNone, IfOk, IfErr, OnOk, length};
 ghost use Rattle.unit_reader.specs.Units.{Turned};
 ghost use Rattle.gossip_wire.specs.FrameReaders.{AddsFrame, BreaksAs, BreaksBehind, GaveFrames};
 ghost use Rattle.gossip_wire.specs.FrameReaders.{HasReadFrames, RefusesFrame, fault_of};
-ghost use Rattle.gossip_wire.specs.FrameReaders.{frames_from};
+ghost use Rattle.gossip_wire.specs.FrameReaders.{frames_from, state_of};
+ghost use Rattle.gossip_wire.specs.FramesSpelled.{rest_of};
+ghost use Rattle.gossip_wire.specs.Recordings.{IsInUnit};
 ghost use Rattle.gossip_wire.specs.Judging.{judge, never};
 ghost use Rattle.gossip_wire.specs.declared.frame.Frame.{Frame as Whole};
 
 use crate::bodies::frame_in;
-use crate::units::{FrameBreak, FrameUnits, UnreadFrame};
+use crate::units::{Field, FrameBreak, FrameUnits, UnreadFrame};
 use crate::{Frame, FrameFault};
 use std::alloc::Global;
 use unit_reader::{Stop, UnitReader};
@@ -129,6 +131,19 @@ impl FrameReader {
                 self.stop = Some(fault);
                 Err(fault)
             }
+        }
+    }
+
+    /// Where the unit begins in which the bytes end that were fed, in bytes from the first; `None`
+    /// where they end between frames. It takes no memory.
+    pub fn unfinished(&self) -> Option<u64>
+        ensures none { IfNone result (rest_of self.now ≡ []) }
+        ensures some { IfSome result (IsInUnit (state_of self.now)) }
+    {
+        let units = self.reader.units();
+        match units.next {
+            Field::Magic if self.reader.is_between() => None,
+            _ => Some(units.field),
         }
     }
 

@@ -1,9 +1,10 @@
 // Laws of messages and frames.
-ghost use Rattle.std.specs.Prelude.{◌≡◌, ◌++◌, ℕ, List, length};
+ghost use Rattle.std.specs.Prelude.{◌≡◌, ◌++◌, ℕ, List, [], length};
 ghost use Rattle.gossip_wire.specs.Frames.{Frames, IsFrame, frame_text};
 ghost use Rattle.hex.specs.Hex.{IsBytes};
-ghost use Rattle.gossip_wire.specs.FramesSpelled.{ReadsFrames, frames_of, rest_of};
-ghost use Rattle.gossip_wire.specs.FrameReaders.{HasReadFrames};
+ghost use Rattle.gossip_wire.specs.FramesSpelled.{ReadsFrames, frames_of, placed, rest_of};
+ghost use Rattle.gossip_wire.specs.FrameReaders.{HasReadFrames, state_of};
+ghost use Rattle.gossip_wire.specs.Recordings.{AreReadAs, BreakAt, EndInside};
 ghost use Rattle.gossip_wire.specs.declared.frame.Frame.{Frame};
 ghost use Rattle.gossip_wire.specs.declared.frame_reader.FrameReader.{FrameReader};
 ghost use Rattle.gossip_wire.specs.Messages.{IsMessage, SpellsMessage, message_text};
@@ -41,4 +42,21 @@ pub fn what_is_read_is_spelled()
 pub fn what_is_spelled_is_read()
     ensures { (bytes : List ℕ) (frames : List Frame) (rest : List ℕ) → IsBytes bytes
         → Frames bytes frames rest → ReadsFrames bytes 0 frames rest }
+{}
+
+/// What a reader of frames was fed is read, as all of it, as the frames that the reader gave and the
+/// beginning of the next; and each of these frames stands where the spelling of those before it ends.
+pub fn what_was_fed_is_read()
+    ensures whole { (fed : List ℕ) (frames : List (ℕ × Frame)) (reader : FrameReader)
+        → HasReadFrames fed frames reader → AreReadAs fed frames (state_of reader) }
+    ensures places { (fed : List ℕ) (frames : List (ℕ × Frame)) (reader : FrameReader)
+        → IsBytes fed → HasReadFrames fed frames reader → frames ≡ placed 0 (frames_of frames) }
+{}
+
+/// Whole frames one behind the other do not end inside a frame, and no front of them breaks.
+pub fn whole_frames_do_not_break()
+    ensures inside { (bytes : List ℕ) (frames : List Frame) (place : ℕ) → IsBytes bytes
+        → Frames bytes frames [] → EndInside bytes place → ⊥ }
+    ensures breaks { (bytes rest : List ℕ) (frames : List Frame) → IsBytes (bytes ++ rest)
+        → Frames (bytes ++ rest) frames [] → (place : ℕ) → BreakAt bytes place → ⊥ }
 {}

@@ -26,7 +26,7 @@ pub use frame_reader::FrameReader;
 pub use frame_writing::{WriteFault, write_frame};
 pub use laws::{
     no_frame_begins_another, no_message_begins_another, what_is_read_is_spelled,
-    what_is_spelled_is_read,
+    what_is_spelled_is_read, what_was_fed_is_read, whole_frames_do_not_break,
 };
 pub use message::{Addresses, Message, MessageFault};
 pub use reading::read_message;

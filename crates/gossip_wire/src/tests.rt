@@ -171,6 +171,40 @@ fn frames_are_read_however_they_are_cut(rt: HostRuntime) -> Result<(), Fail> {
     Ok(())
 }
 
+// Where the unit begins in which bytes end that are fed in two pieces.
+fn unfinished_at(alloc: Global, digits: &[u8], cut: usize) -> Result<Option<u64>, Fail> {
+    let bytes = hex::decode(alloc, digits)?;
+    let mut reader = FrameReader::new(alloc);
+    let (front, back) = bytes.split_at(cut.min(bytes.len()));
+    let _ = reader.feed(alloc, front);
+    let _ = reader.feed(alloc, back);
+    Ok(reader.unfinished())
+}
+
+#[test]
+fn the_unit_in_which_bytes_end_is_told(rt: HostRuntime) -> Result<(), Fail> {
+    let rows: &[(&[u8], Option<u64>)] = &[
+        (b"", None),
+        (b"72", Some(0)),
+        (b"726164", Some(0)),
+        (b"72616401", Some(4)),
+        (b"7261640140", Some(4)),
+        (b"7261640102", Some(5)),
+        (b"726164010206", Some(6)),
+        (b"726164010206000a000400", Some(6)),
+        (b"726164010206000a00040000", None),
+        (b"726164010206000a00040000726164", Some(12)),
+        (b"726164010400", None),
+        (b"72616401040072616401", Some(10)),
+    ];
+    for (digits, place) in rows {
+        for cut in 0..=digits.len() / 2 {
+            assert_eq!(rt; unfinished_at(rt.alloc(), digits, cut)?, *place);
+        }
+    }
+    Ok(())
+}
+
 // A body of git's bytes.
 fn git(alloc: Global, bytes: &[u8]) -> Result<Body, Fail>
     ensures { IfOk result (λ body. IsBody body) }
