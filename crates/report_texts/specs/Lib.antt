@@ -1,2 +1,3 @@
-pub mod Texts
+pub mod Frames
 pub mod Stored
+pub mod Texts
