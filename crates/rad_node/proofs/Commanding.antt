@@ -5,7 +5,7 @@ use Rattle.std.proofs.lemmas.Fmt.{decimal_injective, parse-decimal}
 use Rattle.rad_node.specs.Commands.{HasWords, IsCommitCount, IsInRange, IsPathAndCount, Says, name_of}
 use Rattle.rad_node.specs.Statuses.{IsOrdered}
 use Rattle.rad_node.specs.declared.command.Command.{Command}
-use Rattle.rad_node.specs.declared.command.Command.TheVariants.{Init, Import, Show, Heads, Audit, Gen}
+use Rattle.rad_node.specs.declared.command.Command.TheVariants.{Init, Import, Show, Heads, Audit, Frames, Gen}
 use Rattle.rad_node.specs.declared.status.Status.{Status}
 
 -- no two numbers have one text
@@ -22,36 +22,49 @@ one_name words Init Import same h k = let e : 110 ≡ 109 = ap (λ (l : List ℕ
 one_name words Init Show same h k = let e : 105 ≡ 115 = ap (λ (l : List ℕ). get_or l 0 0) same in absurd (omega (arith, e))
 one_name words Init Heads same h k = let e : 105 ≡ 104 = ap (λ (l : List ℕ). get_or l 0 0) same in absurd (omega (arith, e))
 one_name words Init Audit same h k = let e : 105 ≡ 97 = ap (λ (l : List ℕ). get_or l 0 0) same in absurd (omega (arith, e))
+one_name words Init Frames same h k = let e : 105 ≡ 102 = ap (λ (l : List ℕ). get_or l 0 0) same in absurd (omega (arith, e))
 one_name words Init (Gen m) same h k = let e : 105 ≡ 103 = ap (λ (l : List ℕ). get_or l 0 0) same in absurd (omega (arith, e))
 one_name words Import Init same h k = let e : 109 ≡ 110 = ap (λ (l : List ℕ). get_or l 1 0) same in absurd (omega (arith, e))
 one_name words Import Import same h k = refl
 one_name words Import Show same h k = let e : 105 ≡ 115 = ap (λ (l : List ℕ). get_or l 0 0) same in absurd (omega (arith, e))
 one_name words Import Heads same h k = let e : 105 ≡ 104 = ap (λ (l : List ℕ). get_or l 0 0) same in absurd (omega (arith, e))
 one_name words Import Audit same h k = let e : 105 ≡ 97 = ap (λ (l : List ℕ). get_or l 0 0) same in absurd (omega (arith, e))
+one_name words Import Frames same h k = let e : 105 ≡ 102 = ap (λ (l : List ℕ). get_or l 0 0) same in absurd (omega (arith, e))
 one_name words Import (Gen m) same h k = let e : 105 ≡ 103 = ap (λ (l : List ℕ). get_or l 0 0) same in absurd (omega (arith, e))
 one_name words Show Init same h k = let e : 115 ≡ 105 = ap (λ (l : List ℕ). get_or l 0 0) same in absurd (omega (arith, e))
 one_name words Show Import same h k = let e : 115 ≡ 105 = ap (λ (l : List ℕ). get_or l 0 0) same in absurd (omega (arith, e))
 one_name words Show Show same h k = refl
 one_name words Show Heads same h k = let e : 115 ≡ 104 = ap (λ (l : List ℕ). get_or l 0 0) same in absurd (omega (arith, e))
 one_name words Show Audit same h k = let e : 115 ≡ 97 = ap (λ (l : List ℕ). get_or l 0 0) same in absurd (omega (arith, e))
+one_name words Show Frames same h k = let e : 115 ≡ 102 = ap (λ (l : List ℕ). get_or l 0 0) same in absurd (omega (arith, e))
 one_name words Show (Gen m) same h k = let e : 115 ≡ 103 = ap (λ (l : List ℕ). get_or l 0 0) same in absurd (omega (arith, e))
 one_name words Heads Init same h k = let e : 104 ≡ 105 = ap (λ (l : List ℕ). get_or l 0 0) same in absurd (omega (arith, e))
 one_name words Heads Import same h k = let e : 104 ≡ 105 = ap (λ (l : List ℕ). get_or l 0 0) same in absurd (omega (arith, e))
 one_name words Heads Show same h k = let e : 104 ≡ 115 = ap (λ (l : List ℕ). get_or l 0 0) same in absurd (omega (arith, e))
 one_name words Heads Heads same h k = refl
 one_name words Heads Audit same h k = let e : 104 ≡ 97 = ap (λ (l : List ℕ). get_or l 0 0) same in absurd (omega (arith, e))
+one_name words Heads Frames same h k = let e : 104 ≡ 102 = ap (λ (l : List ℕ). get_or l 0 0) same in absurd (omega (arith, e))
 one_name words Heads (Gen m) same h k = let e : 104 ≡ 103 = ap (λ (l : List ℕ). get_or l 0 0) same in absurd (omega (arith, e))
 one_name words Audit Init same h k = let e : 97 ≡ 105 = ap (λ (l : List ℕ). get_or l 0 0) same in absurd (omega (arith, e))
 one_name words Audit Import same h k = let e : 97 ≡ 105 = ap (λ (l : List ℕ). get_or l 0 0) same in absurd (omega (arith, e))
 one_name words Audit Show same h k = let e : 97 ≡ 115 = ap (λ (l : List ℕ). get_or l 0 0) same in absurd (omega (arith, e))
 one_name words Audit Heads same h k = let e : 97 ≡ 104 = ap (λ (l : List ℕ). get_or l 0 0) same in absurd (omega (arith, e))
 one_name words Audit Audit same h k = refl
+one_name words Audit Frames same h k = let e : 97 ≡ 102 = ap (λ (l : List ℕ). get_or l 0 0) same in absurd (omega (arith, e))
 one_name words Audit (Gen m) same h k = let e : 97 ≡ 103 = ap (λ (l : List ℕ). get_or l 0 0) same in absurd (omega (arith, e))
+one_name words Frames Init same h k = let e : 102 ≡ 105 = ap (λ (l : List ℕ). get_or l 0 0) same in absurd (omega (arith, e))
+one_name words Frames Import same h k = let e : 102 ≡ 105 = ap (λ (l : List ℕ). get_or l 0 0) same in absurd (omega (arith, e))
+one_name words Frames Show same h k = let e : 102 ≡ 115 = ap (λ (l : List ℕ). get_or l 0 0) same in absurd (omega (arith, e))
+one_name words Frames Heads same h k = let e : 102 ≡ 104 = ap (λ (l : List ℕ). get_or l 0 0) same in absurd (omega (arith, e))
+one_name words Frames Audit same h k = let e : 102 ≡ 97 = ap (λ (l : List ℕ). get_or l 0 0) same in absurd (omega (arith, e))
+one_name words Frames Frames same h k = refl
+one_name words Frames (Gen m) same h k = let e : 102 ≡ 103 = ap (λ (l : List ℕ). get_or l 0 0) same in absurd (omega (arith, e))
 one_name words (Gen n) Init same h k = let e : 103 ≡ 105 = ap (λ (l : List ℕ). get_or l 0 0) same in absurd (omega (arith, e))
 one_name words (Gen n) Import same h k = let e : 103 ≡ 105 = ap (λ (l : List ℕ). get_or l 0 0) same in absurd (omega (arith, e))
 one_name words (Gen n) Show same h k = let e : 103 ≡ 115 = ap (λ (l : List ℕ). get_or l 0 0) same in absurd (omega (arith, e))
 one_name words (Gen n) Heads same h k = let e : 103 ≡ 104 = ap (λ (l : List ℕ). get_or l 0 0) same in absurd (omega (arith, e))
 one_name words (Gen n) Audit same h k = let e : 103 ≡ 97 = ap (λ (l : List ℕ). get_or l 0 0) same in absurd (omega (arith, e))
+one_name words (Gen n) Frames same h k = let e : 103 ≡ 102 = ap (λ (l : List ℕ). get_or l 0 0) same in absurd (omega (arith, e))
 one_name words (Gen n) (Gen m) same h k = ap Gen (one_count words n m h k)
 
 -- words say one command
@@ -67,6 +80,7 @@ ordered_more Import s disk other keys input f h = (λ k. f (h.0 k), h.1)
 ordered_more Show s disk other keys input f h = (λ k. f (h.0 k), h.1)
 ordered_more Heads s disk other keys input f h = (λ k. f (h.0 k), h.1)
 ordered_more Audit s disk other keys input f h = (λ k. f (h.0 k), h.1)
+ordered_more Frames s disk other keys input f h = (f h.0, h.1)
 ordered_more (Gen commits) s disk other keys input f h = h
 
 -- a number of commits is in its range
@@ -83,6 +97,7 @@ in_range (name ∷ words) Import h = tt
 in_range (name ∷ words) Show h = tt
 in_range (name ∷ words) Heads h = tt
 in_range (name ∷ words) Audit h = tt
+in_range (name ∷ words) Frames h = tt
 in_range (name ∷ words) (Gen commits) h = counted_in_range words commits h.1
 
 -- a number of commits is parsed as itself

@@ -28,12 +28,13 @@ use Rattle.rad_node.specs.Completeness.{AreInOrder, EndsWell, HasEnded, IsFaultl
 use Rattle.rad_node.specs.Done.{IsDone, MayBeUnopened}
 use Rattle.rad_node.specs.Imports.{Imported, IsBadInput, held_behind, importing}
 use Rattle.rad_node.specs.Runs.{HasReport}
-use Rattle.rad_node.specs.Statuses.{AreGood, Files, IsBadKeyring, IsCaused, IsDamagedStore, IsIllegalStore, IsSaid, OpensStore, SaysKeyring, TakesBundle, files_of}
+use Rattle.rad_node.specs.Statuses.{AreGood, Files, IsBadKeyring, IsCaused, IsDamagedStore, IsIllegalStore, IsSaid, SaysKeyring, TakesBundle, TakesBytes, TakesMemory, files_of}
 use Rattle.rad_node.specs.declared.command.Command.{Command}
-use Rattle.rad_node.specs.declared.command.Command.TheVariants.{Init, Import, Show, Heads, Audit, Gen}
+use Rattle.rad_node.specs.declared.command.Command.TheVariants.{Init, Import, Show, Heads, Audit, Frames, Gen}
 use Rattle.rad_node.specs.declared.status.Status.{Status}
 use Rattle.rad_node.specs.declared.status.Status.TheVariants as status
 use Rattle.rad_node.specs.declared.status.WhichSource.TheVariants as source
+use Rattle.rad_node.proofs.Listings.{listing_ends_well}
 use Rattle.rad_node.proofs.Rooms.{HasRoomFor, bundle_room}
 use Rattle.rad_node.proofs.Spelled.{bundle_job, held_with}
 
@@ -272,10 +273,10 @@ module _ (counted : Option ℕ) (files : Files) (keyring : Contents) (stored : L
 -- what is left of the ends of a run over files that are in order
 abbrev MayEnd : Command → Status → Type 0
 MayEnd command status.Ok = Unit {0}
-MayEnd command (status.InputBad place) = TakesBundle command
+MayEnd command (status.InputBad place) = TakesBytes command
 MayEnd command status.SomeRefused = TakesBundle command
 MayEnd command status.Full = TakesBundle command
-MayEnd command status.NoMemory = OpensStore command
+MayEnd command status.NoMemory = TakesMemory command
 MayEnd command other = ⊥
 
 module _ (command : Command) (files : Files) (keys read disk out : Type 0) (none : IsFaultless keys read disk out) where
@@ -324,7 +325,7 @@ module _ (command : Command) (files : Files) (keys read disk out : Type 0) (none
   unmade order status.NoMemory cause said = said
 
 -- neither a broken bundle nor a full store is left
-ends : (command : Command) (result : Status) → ((place : ℕ) → result ≡ status.InputBad place → TakesBundle command → ⊥)
+ends : (command : Command) (result : Status) → ((place : ℕ) → result ≡ status.InputBad place → TakesBytes command → ⊥)
     → (result ≡ status.Full → TakesBundle command → ⊥) → MayEnd command result → EndsWell command result
 ends command status.Ok bad full may = may
 ends command status.Usage bad full may = may
@@ -394,21 +395,32 @@ module _ (files : Files) (IsSuch : List ℕ → Type 0) (left : Option (List ℕ
   has_taken Show input takes such opens done = absurd takes
   has_taken Heads input takes such opens done = absurd takes
   has_taken Audit input takes such opens done = absurd takes
+  has_taken Frames input takes such opens done = absurd takes
   has_taken (Gen commits) input takes such opens (inl i) = record { all = i.bundle; such = such i.bundle i.is; left = i.left; imported = i.imported }
   has_taken (Gen commits) input takes such opens (inr x) = absurd (opens x.0)
+
+-- what a command takes that lists no frames is a bundle
+takes_bundle : (command : Command) → (command ≡ Frames → ⊥) → TakesBytes command → TakesBundle command
+takes_bundle Frames other takes = absurd (other refl)
+takes_bundle Init other takes = takes
+takes_bundle Import other takes = takes
+takes_bundle Show other takes = takes
+takes_bundle Heads other takes = takes
+takes_bundle Audit other takes = takes
+takes_bundle (Gen commits) other takes = takes
 
 -- a run over a store
 module _ (files : Files) (input left : Option (List ℕ)) (keys read disk out : Type 0) (images : List ℕ → Type 0) (leaves : (List ℕ → Type 0) → Type 0)
     (gives : List ℕ → Type 0) (kept : Type 0) (result : Status) (none : IsFaultless keys read disk out) where
-  ends_in_order : (command : Command) → (command ≡ Init → ⊥) → IsInOrderBy command files input
+  ends_in_order : (command : Command) → (command ≡ Init → ⊥) → (command ≡ Frames → ⊥) → IsInOrderBy command files input
       → HasEnded command files input left keys read disk out images leaves gives kept result → EndsWell command result
-  ends_in_order command other order h =
+  ends_in_order command other store order h =
       let keyring = order.0 in
       let stored = order.1 in
       let such = IsSomeBundle keyring stored in
       ends command result
       (λ place e takes.
-      let t = has_taken files such left images leaves gives kept result command input takes order.3 (subst OpenedFor (sym e) (bad_opened place)) h.done in
+      let t = has_taken files such left images leaves gives kept result command input (takes_bundle command store takes) order.3 (subst OpenedFor (sym e) (bad_opened place)) h.done in
       never_bad (counted_by command) (files_of command files) keyring stored t.all t.left images leaves gives place order.2 t.such
       (subst (λ (s : Status). Imported (counted_by command) (files_of command files) (Consumes (Some t.all) t.left) (IsAtEnd t.left) images leaves gives s) e t.imported))
       (λ e takes.
@@ -420,8 +432,9 @@ module _ (files : Files) (input left : Option (List ℕ)) (keys read disk out : 
   pub ends_well : (command : Command) → IsInOrder command files input
       → HasEnded command files input left keys read disk out images leaves gives kept result → EndsWell command result
   ends_well Init order h = unmade Init files keys read disk out none order result h.cause h.said
-  ends_well Import order h = ends_in_order Import (λ e. absurd (cc e)) order h
-  ends_well Show order h = ends_in_order Show (λ e. absurd (cc e)) order h
-  ends_well Heads order h = ends_in_order Heads (λ e. absurd (cc e)) order h
-  ends_well Audit order h = ends_in_order Audit (λ e. absurd (cc e)) order h
-  ends_well (Gen commits) order h = ends_in_order (Gen commits) (λ e. absurd (cc e)) order h
+  ends_well Import order h = ends_in_order Import (λ e. absurd (cc e)) (λ e. absurd (cc e)) order h
+  ends_well Show order h = ends_in_order Show (λ e. absurd (cc e)) (λ e. absurd (cc e)) order h
+  ends_well Heads order h = ends_in_order Heads (λ e. absurd (cc e)) (λ e. absurd (cc e)) order h
+  ends_well Audit order h = ends_in_order Audit (λ e. absurd (cc e)) (λ e. absurd (cc e)) order h
+  ends_well Frames order h = listing_ends_well input left gives keys read disk out result order none h.cause h.done
+  ends_well (Gen commits) order h = ends_in_order (Gen commits) (λ e. absurd (cc e)) (λ e. absurd (cc e)) order h

@@ -3,6 +3,7 @@ pub mod Completing
 pub mod Entered
 pub mod Entries
 pub mod Importing
+pub mod Listings
 pub mod Moves
 pub mod Openings
 pub mod Rooms

@@ -3,7 +3,7 @@ use Rattle.std.specs.Prelude.{◌≡◌, ◌≢◌, ◌≤◌, ℕ, List, [], �
 use Rattle.std.specs.List.{All}
 use Rattle.std.specs.String.{string_bytes}
 use Rattle.rad_node.specs.declared.command.Command.{Command}
-use Rattle.rad_node.specs.declared.command.Command.TheVariants.{Init, Import, Show, Heads, Audit, Gen}
+use Rattle.rad_node.specs.declared.command.Command.TheVariants.{Init, Import, Show, Heads, Audit, Frames, Gen}
 
 -- so many paths, none of them empty
 pub record ArePaths {A : Type 0} (count : ℕ) (paths : List (String A)) : Type 0 where
@@ -17,6 +17,7 @@ name_of Import = codes "import"
 name_of Show = codes "show"
 name_of Heads = codes "heads"
 name_of Audit = codes "audit"
+name_of Frames = codes "frames"
 name_of (Gen commits) = codes "gen"
 
 -- the word is this number of commits, from 1 to 100,000 in decimal
@@ -33,13 +34,14 @@ IsPathAndCount (path ∷ word ∷ []) count = (string_bytes path ≢ []) × IsCo
 IsPathAndCount (path ∷ word ∷ other ∷ more) count = ⊥
 
 -- what stands behind the name of a command: paths of the store, the keyring file and the bundle; or the
--- path of the store and a number of commits
+-- path of a file of frames; or the path of the store and a number of commits
 abbrev pub HasWords : {A : Type 0} → Command → List (String A) → Type 0
 HasWords Init words = ArePaths 1 words
 HasWords Import words = ArePaths 3 words
 HasWords Show words = ArePaths 2 words
 HasWords Heads words = ArePaths 2 words
 HasWords Audit words = ArePaths 2 words
+HasWords Frames words = ArePaths 1 words
 HasWords (Gen commits) words = IsPathAndCount words commits
 
 -- the words are this command
@@ -54,6 +56,7 @@ IsInRange Import = Unit {0}
 IsInRange Show = Unit {0}
 IsInRange Heads = Unit {0}
 IsInRange Audit = Unit {0}
+IsInRange Frames = Unit {0}
 IsInRange (Gen commits) = (1 ≤ commits) × (commits ≤ 100000)
 
 -- the words are no command

@@ -30,9 +30,10 @@ use Rattle.report_texts.specs.Texts.{job_text}
 use Rattle.store_reports.specs.Reports.{IsGeneratedReport}
 use Rattle.rad_node.specs.Done.{IsDone}
 use Rattle.rad_node.specs.Imports.{AreTaken}
-use Rattle.rad_node.specs.Statuses.{Files, IsCaused, IsSaid, OpensStore, SaysKeyring, TakesBundle, files_of}
+use Rattle.rad_node.specs.Listing.{IsRecording}
+use Rattle.rad_node.specs.Statuses.{Files, IsCaused, IsSaid, SaysKeyring, TakesBundle, TakesMemory, files_of}
 use Rattle.rad_node.specs.declared.command.Command.{Command}
-use Rattle.rad_node.specs.declared.command.Command.TheVariants.{Init, Import, Show, Heads, Audit, Gen}
+use Rattle.rad_node.specs.declared.command.Command.TheVariants.{Init, Import, Show, Heads, Audit, Frames, Gen}
 use Rattle.rad_node.specs.declared.status.Status.{Status}
 use Rattle.rad_node.specs.declared.status.Status.TheVariants as status
 
@@ -83,6 +84,7 @@ TakesSuch Import input IsSuch = IsSomeAnd input IsSuch
 TakesSuch Show input IsSuch = Unit {0}
 TakesSuch Heads input IsSuch = Unit {0}
 TakesSuch Audit input IsSuch = Unit {0}
+TakesSuch Frames input IsSuch = Unit {0}
 TakesSuch (Gen commits) input IsSuch = (bundle : List ℕ) → IsBundleOf (generated commits) bundle → IsSuch bundle
 
 -- the files by which a command works are in order, and so is the bundle that it takes
@@ -90,9 +92,10 @@ abbrev pub IsInOrderBy : Command → Files → Option (List ℕ) → Type 0
 IsInOrderBy command files input = (keyring : Contents) × (stored : List Item)
     × AreInOrder (files_of command files) keyring stored × TakesSuch command input (IsSomeBundle keyring stored)
 
--- the same; `init` makes a store where none is made
+-- the same; `init` makes a store where none is made, and `frames` lists an input of frames
 abbrev pub IsInOrder : Command → Files → Option (List ℕ) → Type 0
 IsInOrder Init files input = IsSomeAnd files.store IsUnmade
+IsInOrder Frames files input = IsSomeAnd input IsRecording
 IsInOrder other files input = IsInOrderBy other files input
 
 -- What is ensured of the run of a command that ended so: a fault has its cause, what is said of the files is so, and
@@ -112,7 +115,7 @@ IsFaultless keys read disk out = (keys → ⊥) × (read → ⊥) × (disk → �
 abbrev pub EndsWell : Command → Status → Type 0
 EndsWell command status.Ok = Unit {0}
 EndsWell command status.SomeRefused = TakesBundle command
-EndsWell command status.NoMemory = OpensStore command
+EndsWell command status.NoMemory = TakesMemory command
 EndsWell command other = ⊥
 
 -- the number of commits, where a command counts them

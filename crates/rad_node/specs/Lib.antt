@@ -5,6 +5,7 @@ pub mod Ends
 pub mod Generating
 pub mod Imports
 pub mod Jobs
+pub mod Listing
 pub mod Opening
 pub mod Printing
 pub mod Runs

@@ -6,7 +6,7 @@ use Rattle.ref_journal.specs.Images.{IsUnmade}
 use Rattle.ref_journal.specs.Moments.{HasBodies}
 use Rattle.rad_node.specs.Statuses.{IsOpeningEnd}
 use Rattle.rad_node.specs.declared.command.Command.{Command}
-use Rattle.rad_node.specs.declared.command.Command.TheVariants.{Init, Import, Show, Heads, Audit, Gen}
+use Rattle.rad_node.specs.declared.command.Command.TheVariants.{Init, Import, Show, Heads, Audit, Frames, Gen}
 use Rattle.rad_node.specs.declared.status.Status.{Status}
 use Rattle.rad_node.specs.declared.status.Status.TheVariants.{Ok, WriteFault, DiskFault, SomeRefused, AlreadyMade}
 
@@ -29,6 +29,7 @@ OnlyReadsDisk Import status = IsOpeningEnd status
 OnlyReadsDisk Show status = Unit {0}
 OnlyReadsDisk Heads status = Unit {0}
 OnlyReadsDisk Audit status = Unit {0}
+OnlyReadsDisk Frames status = Unit {0}
 OnlyReadsDisk (Gen commits) status = IsOpeningEnd status
 
 -- the disk has the bytes from before, and a crash leaves nothing new, now or at any moment of the run

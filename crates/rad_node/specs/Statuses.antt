@@ -10,7 +10,7 @@ use Rattle.object_store.specs.Opens.{IsIllegalAt, IsNoEntryAt}
 use Rattle.rad_vectors.specs.Generated.{generated}
 use Rattle.rad_vectors.specs.Repositories.{keyring_text}
 use Rattle.rad_node.specs.declared.command.Command.{Command}
-use Rattle.rad_node.specs.declared.command.Command.TheVariants.{Init, Import, Show, Heads, Audit, Gen}
+use Rattle.rad_node.specs.declared.command.Command.TheVariants.{Init, Import, Show, Heads, Audit, Frames, Gen}
 use Rattle.rad_node.specs.declared.status.Status.{Status}
 use Rattle.rad_node.specs.declared.status.Status.TheVariants.{Ok, Usage, ReadFault, WriteFault, DiskFault, Unmade, Damaged, KeyringBad, InputBad, SomeRefused, Full, NotLegal, AlreadyMade, Changed, NoMemory}
 use Rattle.rad_node.specs.declared.status.WhichSource.{WhichSource}
@@ -34,6 +34,7 @@ files_of Import files = files
 files_of Show files = files
 files_of Heads files = files
 files_of Audit files = files
+files_of Frames files = files
 files_of (Gen commits) files = record { keyring = Some (generated_keyring commits); store = files.store }
 
 -- A fault is answered only where its cause is there: a fault of the keyring's source, of the bundle's,
@@ -99,6 +100,7 @@ OpensStore Import = Unit {0}
 OpensStore Show = Unit {0}
 OpensStore Heads = Unit {0}
 OpensStore Audit = Unit {0}
+OpensStore Frames = ⊥
 OpensStore (Gen commits) = Unit {0}
 
 -- the command reads this source
@@ -110,6 +112,7 @@ ReadsSource Import source.Input = Unit {0}
 ReadsSource Show which = which ≡ source.Keys
 ReadsSource Heads which = which ≡ source.Keys
 ReadsSource Audit which = which ≡ source.Keys
+ReadsSource Frames which = which ≡ source.Input
 ReadsSource (Gen commits) which = ⊥
 
 -- the command takes a bundle
@@ -119,7 +122,18 @@ TakesBundle Import = Unit {0}
 TakesBundle Show = ⊥
 TakesBundle Heads = ⊥
 TakesBundle Audit = ⊥
+TakesBundle Frames = ⊥
 TakesBundle (Gen commits) = Unit {0}
+
+-- the command takes a bundle, or bytes of frames
+abbrev pub TakesBytes : Command → Type 0
+TakesBytes Frames = Unit {0}
+TakesBytes other = TakesBundle other
+
+-- the command opens a store, or reads frames, which takes memory
+abbrev pub TakesMemory : Command → Type 0
+TakesMemory Frames = Unit {0}
+TakesMemory other = OpensStore other
 
 -- the keyring file, where it is told, was read
 abbrev pub HasKeyring : Files → Type 0
@@ -135,13 +149,13 @@ IsSaid command files DiskFault = OpensStore command → HasKeyring files
 IsSaid command files Unmade = OpensStore command × HasKeyring files × IfSome files.store IsUnmade
 IsSaid command files (Damaged place) = OpensStore command × HasKeyring files × IfSome files.store (IsDamagedStore place)
 IsSaid command files (KeyringBad line) = OpensStore command × IfSome files.keyring (IsBadKeyring line)
-IsSaid command files (InputBad place) = TakesBundle command
+IsSaid command files (InputBad place) = TakesBytes command
 IsSaid command files SomeRefused = TakesBundle command
 IsSaid command files Full = TakesBundle command
 IsSaid command files (NotLegal n) = OpensStore command × IfSome files.store (IsIllegalStore files n)
 IsSaid command files AlreadyMade = (command ≡ Init) × IfSome files.store (λ bytes. IsUnmade bytes → ⊥)
 IsSaid command files (Changed change) = ⊥
-IsSaid command files NoMemory = OpensStore command
+IsSaid command files NoMemory = TakesMemory command
 
 -- the run ended at its keyring
 abbrev pub IsKeyringEnd : Status → Type 0
@@ -156,8 +170,8 @@ IsOpeningEnd (Damaged place) = Unit {0}
 IsOpeningEnd (NotLegal n) = Unit {0}
 IsOpeningEnd other = IsKeyringEnd other
 
--- What was not asked yet is the very same: `init` and `gen` read no file, a run that ended at its keyring left the
--- store, and one that ended before it left the bundle, which only `import` reads.
+-- What was not asked yet is the very same: `init` and `gen` read no file, `frames` no keyring and no store, a run that
+-- ended at its keyring left the store, and one that ended before it left the bundle, which only `import` reads.
 abbrev pub IsOrdered : Command → Status → Type 0 → Type 0 → Type 0 → Type 0
 IsOrdered Init status same_disk same_keys same_input = same_keys × same_input
 IsOrdered Import status same_disk same_keys same_input =
@@ -165,4 +179,5 @@ IsOrdered Import status same_disk same_keys same_input =
 IsOrdered Show status same_disk same_keys same_input = (IsKeyringEnd status → same_disk) × same_input
 IsOrdered Heads status same_disk same_keys same_input = (IsKeyringEnd status → same_disk) × same_input
 IsOrdered Audit status same_disk same_keys same_input = (IsKeyringEnd status → same_disk) × same_input
+IsOrdered Frames status same_disk same_keys same_input = same_disk × same_keys
 IsOrdered (Gen commits) status same_disk same_keys same_input = same_keys × same_input

@@ -5,7 +5,7 @@ ghost use Rattle.rad_node.specs.Commands.{Says};
 
 use itoa::Buffer;
 
-/// A command that works on a store.
+/// A command: of the store, or of a file of frames.
 #[derive(Clone, Copy, Debug, PartialEq, Eq)]
 pub enum Command {
     /// Makes an empty store.
@@ -18,14 +18,16 @@ pub enum Command {
     Heads,
     /// Prints what the store counts.
     Audit,
+    /// Prints the frames of a file.
+    Frames,
     /// Imports the repository that is made by rule with so many commits.
     Gen(u32),
 }
 
 /// The command that the words give, if they give one: `init <store>`,
 /// `import <store> <keys> <bundle>`, `show <store> <keys>`, `heads <store> <keys>`,
-/// `audit <store> <keys>`, `gen <store> <commits>`. No path is empty. The number of commits is from 1
-/// to 100,000, in decimal without a leading 0.
+/// `audit <store> <keys>`, `frames <file>`, `gen <store> <commits>`. No path is empty. The number of
+/// commits is from 1 to 100,000, in decimal without a leading 0.
 pub fn command_of(words: &[String]) -> Option<Command>
     ensures some { IfSome result (Says words.now) }
     ensures none { IfNone result (IsNoCommand words.now) }
@@ -37,6 +39,7 @@ pub fn command_of(words: &[String]) -> Option<Command>
         "show" if are_paths(2, paths) => Some(Command::Show),
         "heads" if are_paths(2, paths) => Some(Command::Heads),
         "audit" if are_paths(2, paths) => Some(Command::Audit),
+        "frames" if are_paths(1, paths) => Some(Command::Frames),
         "gen" => count_behind_path(paths).map(Command::Gen),
         _ => None,
     }

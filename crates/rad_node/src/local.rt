@@ -19,6 +19,7 @@ ghost use Rattle.rad_node.specs.declared.command.Command.{Command as IsCommand};
 use crate::command::{Command, command_of};
 use crate::generating::generate;
 use crate::import::import;
+use crate::listing::list_frames;
 use crate::making::make_store;
 use crate::printing::{Report, print_store};
 use crate::status::Status;
@@ -60,13 +61,15 @@ fn run_command<D: Disk, S: Source, I: Source, W: Sink>(
         Command::Show => print_store(alloc, Report::Show, disk, keys, out),
         Command::Heads => print_store(alloc, Report::Heads, disk, keys, out),
         Command::Audit => print_store(alloc, Report::Audit, disk, keys, out),
+        Command::Frames => (list_frames(alloc, input, out), disk),
         Command::Gen(commits) => generate(alloc, commits, disk, out),
     }
 }
 
 /// Runs the command that the words give: it reads the words, the keyring, the store and the bundle,
 /// in this order, and gives the report last. The first refusal ends it. `gen` makes its keyring and its
-/// bundle in place of reading them.
+/// bundle in place of reading them. `frames` reads its file in the bundle's place, and asks neither
+/// the keyring nor the disk.
 ///
 /// - `Ok`: all was done, and the report was given.
 /// - `Usage`: the words are no command. Nothing was asked.
@@ -80,7 +83,8 @@ fn run_command<D: Disk, S: Source, I: Source, W: Sink>(
 /// - `KeyringBad`: the keyring file's first broken line, or 0 where the file has more than
 ///   268,435,456 bytes.
 /// - `InputBad`: the bundle is broken, ends inside a unit, or has ended and bytes follow; the place
-///   of that unit. The store has the entries from before it.
+///   of that unit. The store has the entries from before it. Of `frames`: a frame is broken, or the
+///   file ends inside it; the place of that unit, or 1,073,741,824 where the file is longer.
 /// - `SomeRefused`: the offer or one of its remotes was refused, or its sections are too long. The
 ///   report of an import says why.
 /// - `Full`: the store has no room for the next entry.

@@ -8,6 +8,7 @@ mod generating;
 mod import;
 mod job;
 mod laws;
+mod listing;
 mod local;
 mod making;
 mod opening;
@@ -43,11 +44,13 @@ person, as they were accepted.
   rad_node show STORE KEYRING           print each repository's identity and remotes
   rad_node heads STORE KEYRING          print each repository's canonical head
   rad_node audit STORE KEYRING          read the whole store again, and print what it counts
+  rad_node frames FILE                  print each frame of recorded bytes of a link
   rad_node gen STORE COMMITS            import a repository that is made by rule, and report it
 
   STORE    the file of the store
   KEYRING  the file of names and accepted signatures
   BUNDLE   the file of a repository's objects and signed refs
+  FILE     the file of what one end of a link said
   COMMITS  a number from 1 to 100000
 
   --help     print this text
@@ -59,7 +62,7 @@ for example:
 
 exit status: 0 done; 1 no command; 2 a file is not read; 3 the report is not written; 4 the store's
 file failed; 5 no store is made; 6 the store is damaged; 7 the keyring is broken at a line; 9 the
-bundle is broken at a byte; 10 something was refused; 11 the store is full; 12 an entry of the store
+bundle or the frames are broken at a byte; 10 something was refused; 11 the store is full; 12 an entry of the store
 is not legal under the keyring; 13 a store is made already; 15 an object that is read back is
 another, which no command meets yet; 70 no memory
 ";
@@ -121,13 +124,22 @@ fn progress_of(rt: &HostRuntime, words: &[String], bundle: &str) -> Option<Progr
     }
 }
 
+// The place of the word that names the input: the bundle behind the store and the keyring, or the
+// file of frames.
+fn input_place(words: &[String]) -> usize {
+    match words.first() {
+        Some(word) if word.as_str() == "frames" => 1,
+        _ => 3,
+    }
+}
+
 // Runs a command of the words over real files.
 fn run_command(rt: &HostRuntime, words: &[String]) -> Result<Status, Status> {
     let mut disk = FileDisk::new(*rt, path_at(rt, words, 1)?);
     let mut keys = FileSource::new(*rt, path_at(rt, words, 2)?);
-    let bundle = path_at(rt, words, 3)?;
-    let progress = progress_of(rt, words, bundle.as_str());
-    let mut input = Watched::new(FileSource::new(*rt, bundle), progress);
+    let path = path_at(rt, words, input_place(words))?;
+    let progress = progress_of(rt, words, path.as_str());
+    let mut input = Watched::new(FileSource::new(*rt, path), progress);
     let mut out = StdSink::new(*rt);
     let status = run_local(
         rt.alloc(),

@@ -22,6 +22,8 @@ const HEADS: &[&str] = &["heads", "store", "keyring"];
 
 const AUDIT: &[&str] = &["audit", "store", "keyring"];
 
+const FRAMES: &[&str] = &["frames", "file"];
+
 const IMPORTED: &str = "job 158d3d14e60647fc73f5f587b36e55c6a078e90b done
 id first 8d4fd11244a1f322e3d7ff9b76e5df6fc41b9725
 remote 1111111111111111111111111111111111111111111111111111111111111111 advanced 99415aa28f0e5b34eae2502b09860562ffec8822
@@ -154,12 +156,15 @@ fn entries_in(alloc: Global, store: &[u8]) -> Result<Option<usize>, Fail> {
 
 #[test]
 fn words_are_read(rt: HostRuntime) -> Result<(), Fail> {
-    let cases: [(&[&str], Option<Command>); 19] = [
+    let cases: [(&[&str], Option<Command>); 22] = [
         (INIT, Some(Command::Init)),
         (IMPORT, Some(Command::Import)),
         (SHOW, Some(Command::Show)),
         (HEADS, Some(Command::Heads)),
         (AUDIT, Some(Command::Audit)),
+        (FRAMES, Some(Command::Frames)),
+        (&["frames", ""], None),
+        (&["frames", "file", "more"], None),
         (&["gen", "store", "1"], Some(Command::Gen(1))),
         (&["gen", "store", "100000"], Some(Command::Gen(100_000))),
         (&["gen", "store", "0"], None),
@@ -189,6 +194,63 @@ fn words_are_read(rt: HostRuntime) -> Result<(), Fail> {
             assert!(rt; left.report.is_empty());
         }
     }
+    Ok(())
+}
+
+// The run of `frames` over these bytes: it asks no disk and no keyring.
+fn list(alloc: Global, bytes: &[u8], piece: usize) -> Result<Left, Fail> {
+    let handed = Given {
+        words: FRAMES,
+        bundle: bytes,
+        keys_fails: &[0],
+        disk_fails: &[0],
+        piece,
+        ..GIVEN
+    };
+    run(alloc, &handed)
+}
+
+#[test]
+fn frames_are_listed_or_refused_at_a_place(rt: HostRuntime) -> Result<(), Fail> {
+    let alloc = rt.alloc();
+    let ping = "0 gossip 0 0 6 ping\n";
+    let cases: [(&[u8], Status, &str); 8] = [
+        (b"", Status::Ok, ""),
+        (b"rad\x01\x02\x06\x00\x0a\x00\x04\x00\x00", Status::Ok, ping),
+        (
+            b"rad\x01\x04\x03abcrad\x01\x09\x02\x01\x25",
+            Status::Ok,
+            "0 git 0 0 3\n9 control 1 1 2\n",
+        ),
+        (b"rad\x02", Status::InputBad(3), ""),
+        (b"rad\x01\x40\x25", Status::InputBad(4), ""),
+        (b"rad\x01\x06\x00", Status::InputBad(4), ""),
+        (
+            b"rad\x01\x02\x06\x00\x0a\x00\x04\x00",
+            Status::InputBad(6),
+            "",
+        ),
+        (b"rad\x01\x02\x02\x00\x0a", Status::InputBad(6), ""),
+    ];
+    for (bytes, status, report) in &cases {
+        for piece in [1, 3, 65_536] {
+            let left = list(alloc, bytes, piece)?;
+            assert_eq!(rt; left.status, *status);
+            assert_eq!(rt; left.report.as_slice(), report.as_bytes());
+            assert_eq!(rt; left.disk.calls(), 0);
+        }
+    }
+    let handed = Given {
+        words: FRAMES,
+        bundle: cases[1].0,
+        piece: 5,
+        input_fails: &[1],
+        ..GIVEN
+    };
+    assert_eq!(rt;
+        run(alloc, &handed)?.status,
+        Status::ReadFault(WhichSource::Input)
+    );
     Ok(())
 }
 

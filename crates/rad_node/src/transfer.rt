@@ -10,7 +10,7 @@ use rad_outside::{Failed, Sink, Source};
 use std::alloc::{AllocError, Global};
 
 /// The most bytes that are asked of a source at once.
-const PIECE: usize = 65536;
+pub(crate) const PIECE: usize = 65536;
 
 /// Why a file is not read.
 #[derive(Clone, Copy, Debug, PartialEq, Eq)]
@@ -60,8 +60,8 @@ pub(crate) fn read_all<S: Source>(
     Err(ReadFault::TooLong)
 }
 
-// This many zeros.
-fn zeros(alloc: Global, count: usize) -> Result<Vec<u8>, AllocError>
+/// This many zeros.
+pub(crate) fn zeros(alloc: Global, count: usize) -> Result<Vec<u8>, AllocError>
     ensures { IfOk result (λ zeros. length zeros.items ≡ count) }
 {
     let zeros = vec![in alloc; 0; count]?;
