@@ -3,8 +3,10 @@ pub mod Causes
 pub mod CrashLaws
 pub mod Crashes
 pub mod Disks
+pub mod Doors
 pub mod FailingCalls
 pub mod MemDisk
+pub mod MemDoors
 pub mod MemLink
 pub mod MemSink
 pub mod MemSource
