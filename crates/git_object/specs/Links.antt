@@ -42,6 +42,10 @@ pub record LinksParents (bytes rest : List ℕ) (old new : List LinkTo) : Type 0
   pub behind : StandsBehindParents bytes rest
   pub added : new ≡ old ++ map (λ parent. link_to parent kinds.Commit) behind.parents
 
+-- what stood in a list stands at its front
+abbrev pub KeepsFront : List LinkTo → List LinkTo → Type 0
+KeepsFront old new = (more : List LinkTo) × (new ≡ old ++ more)
+
 -- the object that the tag is put on
 abbrev pub tag_links : Tag → List LinkTo
 tag_links tag = link_to tag.object tag.kind ∷ []

@@ -25,7 +25,7 @@ pub use laws::{
     commits_have_one_spelling, links_are_the_values, one_place, spellings_are_read_back,
     tags_have_one_spelling, trees_have_one_spelling, what_breaks_is_refused,
 };
-pub use link::{LinkTo, LinksFault, links};
+pub use link::{LinkTo, LinksFault, add_links, links};
 pub use mode::Mode;
 pub use name::name_of;
 pub use named_entry::NamedEntry;

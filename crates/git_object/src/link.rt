@@ -1,8 +1,8 @@
 // What an object links to.
-ghost use Rattle.std.specs.Prelude.{◌≡◌, ◌++◌, ◌-◌, length, IfErr, IfOk};
+ghost use Rattle.std.specs.Prelude.{◌≡◌, ◌++◌, ◌-◌, length, IfErr, IfOk, OnErr, OnOk};
 ghost use Rattle.git_object.specs.Grammar.{IsCommit, IsTag, IsTree};
 ghost use Rattle.git_object.specs.Faults.{IsLinksFault};
-ghost use Rattle.git_object.specs.Links.{IsWellFormed, LinksParents, kind_of, links};
+ghost use Rattle.git_object.specs.Links.{IsWellFormed, KeepsFront, LinksParents, kind_of, links};
 
 use crate::commit::oid_line_at;
 use crate::{Bad, Kind, Mode, read_tag, read_tree};
@@ -58,30 +58,31 @@ fn linked_kind(mode: Mode) -> Option<Kind>
     }
 }
 
-// The links of a tree.
-fn tree_links(alloc: Global, bytes: &[u8]) -> Result<Vec<LinkTo>, LinksFault>
-    ensures found { IfOk result (λ found. found.items ≡ links Kind.Tree bytes.now) }
-    ensures tree { IfOk result (λ _. IsTree bytes.now) }
+// Adds the links of a tree.
+fn add_tree_links(bytes: &[u8], found: &mut Vec<LinkTo>) -> Result<(), LinksFault>
+    ensures added { OnOk result (found.new.items ≡ found.old.items ++ links Kind.Tree bytes.now) }
+    ensures kept { OnErr result (KeepsFront found.old.items found.new.items) }
+    ensures tree { OnOk result (IsTree bytes.now) }
     ensures fault { IfErr result (IsLinksFault Kind.Tree bytes.now) }
 {
     let entries = read_tree(bytes)?;
-    let mut found = Vec::new(alloc);
     for entry in entries {
         if let Some(kind) = linked_kind(entry.mode) {
             let oid = entry.oid;
             found.push(LinkTo { oid, kind })?;
         }
     }
-    Ok(found)
+    Ok(())
 }
 
 // Adds the links to the parents at the front, and answers what stands behind them.
-fn parent_links<'a>(
+fn add_parent_links<'a>(
     bytes: &'a [u8],
     found: &mut Vec<LinkTo>,
 ) -> Result<&'a [u8], AllocFailed<LinkTo>>
-    ensures { IfOk result
+    ensures added { IfOk result
         (λ rest. LinksParents bytes.now rest.now found.old.items found.new.items) }
+    ensures kept { OnErr result (KeepsFront found.old.items found.new.items) }
 {
     let kind = Kind::Commit;
     let mut rest = bytes;
@@ -92,37 +93,74 @@ fn parent_links<'a>(
     Ok(rest)
 }
 
-// The links of a commit, whose lines are gone over once.
-fn commit_links(alloc: Global, bytes: &[u8]) -> Result<Vec<LinkTo>, LinksFault>
-    ensures found { IfOk result (λ found. found.items ≡ links Kind.Commit bytes.now) }
-    ensures commit { IfOk result (λ _. IsCommit bytes.now) }
+// Adds the links of a commit, whose lines are gone over once.
+fn add_commit_links(bytes: &[u8], found: &mut Vec<LinkTo>) -> Result<(), LinksFault>
+    ensures added { OnOk result
+        (found.new.items ≡ found.old.items ++ links Kind.Commit bytes.now) }
+    ensures kept { OnErr result (KeepsFront found.old.items found.new.items) }
+    ensures commit { OnOk result (IsCommit bytes.now) }
     ensures fault { IfErr result (IsLinksFault Kind.Commit bytes.now) }
 {
     let Some((oid, behind_tree)) = oid_line_at(bytes, b"tree ") else {
         return Err(LinksFault::Bad(0));
     };
-    let mut found = Vec::new(alloc);
     let kind = Kind::Tree;
     found.push(LinkTo { oid, kind })?;
-    let rest = parent_links(behind_tree, &mut found)?;
+    let rest = add_parent_links(behind_tree, found)?;
     let Some(_) = after(rest, b"author ") else {
         let place = bytes.len() - rest.len();
         return Err(LinksFault::Bad(place));
     };
-    Ok(found)
+    Ok(())
 }
 
-// The link of a tag.
-fn tag_links(alloc: Global, bytes: &[u8]) -> Result<Vec<LinkTo>, LinksFault>
-    ensures found { IfOk result (λ found. found.items ≡ links Kind.Tag bytes.now) }
-    ensures tag { IfOk result (λ _. IsTag bytes.now) }
+// Adds the link of a tag.
+fn add_tag_links(bytes: &[u8], found: &mut Vec<LinkTo>) -> Result<(), LinksFault>
+    ensures added { OnOk result (found.new.items ≡ found.old.items ++ links Kind.Tag bytes.now) }
+    ensures kept { OnErr result (found.new.items ≡ found.old.items) }
+    ensures tag { OnOk result (IsTag bytes.now) }
     ensures fault { IfErr result (IsLinksFault Kind.Tag bytes.now) }
 {
     let parts = read_tag(bytes)?;
-    let mut found = Vec::new(alloc);
     let (oid, kind) = (parts.object, parts.kind);
     found.push(LinkTo { oid, kind })?;
-    Ok(found)
+    Ok(())
+}
+
+// Adds the links of an object; some of them also where it is refused.
+fn add_all(kind: Kind, bytes: &[u8], found: &mut Vec<LinkTo>) -> Result<(), LinksFault>
+    ensures added { OnOk result (found.new.items ≡ found.old.items ++ links kind bytes.now) }
+    ensures kept { OnErr result (KeepsFront found.old.items found.new.items) }
+    ensures well_formed { OnOk result (IsWellFormed kind bytes.now) }
+    ensures fault { IfErr result (IsLinksFault kind bytes.now) }
+{
+    match kind {
+        Kind::Blob => Ok(()),
+        Kind::Tree => add_tree_links(bytes, found),
+        Kind::Commit => add_commit_links(bytes, found),
+        Kind::Tag => add_tag_links(bytes, found),
+    }
+}
+
+/// Adds what the object of this kind with these bytes links to at the end of a list, as `links`
+/// gives it. A refusal leaves the list as it was. Bad exactly where the bytes are not those of the
+/// kind, with the place as the reader tells it.
+///
+/// A walk clears one list and fills it again for each object.
+pub fn add_links(kind: Kind, bytes: &[u8], found: &mut Vec<LinkTo>) -> Result<(), LinksFault>
+    ensures added { OnOk result (found.new.items ≡ found.old.items ++ links kind bytes.now) }
+    ensures left { OnErr result (found.new.items ≡ found.old.items) }
+    ensures well_formed { OnOk result (IsWellFormed kind bytes.now) }
+    ensures fault { IfErr result (IsLinksFault kind bytes.now) }
+{
+    let before = found.len();
+    match add_all(kind, bytes, found) {
+        Ok(()) => Ok(()),
+        Err(fault) => {
+            found.truncate(before);
+            Err(fault)
+        }
+    }
 }
 
 /// What the object of this kind with these bytes links to, in the order of the bytes: of a tree
@@ -137,10 +175,7 @@ pub fn links(alloc: Global, kind: Kind, bytes: &[u8]) -> Result<Vec<LinkTo>, Lin
     ensures well_formed { IfOk result (λ _. IsWellFormed kind bytes.now) }
     ensures fault { IfErr result (IsLinksFault kind bytes.now) }
 {
-    match kind {
-        Kind::Blob => Ok(Vec::new(alloc)),
-        Kind::Tree => tree_links(alloc, bytes),
-        Kind::Commit => commit_links(alloc, bytes),
-        Kind::Tag => tag_links(alloc, bytes),
-    }
+    let mut found = Vec::new(alloc);
+    add_links(kind, bytes, &mut found)?;
+    Ok(found)
 }

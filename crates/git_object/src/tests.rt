@@ -1,7 +1,7 @@
 // Tests against tables that an independent program made, and names that Git gave.
 use crate::{
-    Kind, LinkTo, LinksFault, Mode, NamedEntry, TreeFault, links, name_of, read_commit, read_tag,
-    read_tree, write_commit, write_tag, write_tree,
+    Kind, LinkTo, LinksFault, Mode, NamedEntry, TreeFault, add_links, links, name_of, read_commit,
+    read_tag, read_tree, write_commit, write_tag, write_tree,
 };
 use rad_base::{Bytes, Oid, parse_oid};
 use std::alloc::{AllocError, Global};
@@ -320,5 +320,26 @@ fn links_come_in_the_order_of_the_bytes(rt: HostRuntime) -> Result<(), Fail> {
         links(rt.alloc(), Kind::Tree, b"x").err(),
         Some(LinksFault::Bad(0))
     );
+    Ok(())
+}
+
+#[test]
+fn links_are_added_behind_those_that_stand(rt: HostRuntime) -> Result<(), Fail> {
+    let mut found = Vec::new(rt.alloc());
+    let commit = write_commit(rt.alloc(), &THIS, &[OTHER], b"author x")?;
+    add_links(Kind::Commit, &commit, &mut found)?;
+    let torn = content(rt.alloc(), b"tree #\nparent #\nauthor")?;
+    assert_eq!(rt;
+        add_links(Kind::Commit, &torn, &mut found).err(),
+        Some(LinksFault::Bad(94))
+    );
+    let tree = content(rt.alloc(), b"100644 a\0%160000 c\0%")?;
+    add_links(Kind::Tree, &tree, &mut found)?;
+    let wanted = [
+        link(THIS, Kind::Tree),
+        link(OTHER, Kind::Commit),
+        link(THIS, Kind::Blob),
+    ];
+    assert_eq!(rt; found.as_slice(), wanted.as_slice());
     Ok(())
 }

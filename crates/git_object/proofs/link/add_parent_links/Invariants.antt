@@ -1,6 +1,6 @@
 use Rattle.std.proofs.Common.{length}
 use Rattle.git_object.proofs.Linked.{Gathered}
-use Rattle.git_object.proofs.link.parent_links.Given as goal
+use Rattle.git_object.proofs.link.add_parent_links.Given as goal
 
 abbrev pub invariant-reading : goal.invariant-reading
 invariant-reading l = Gathered l.bytes l.rest l.fn.found.items l.found.items
