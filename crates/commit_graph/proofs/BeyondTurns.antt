@@ -33,7 +33,7 @@ use Rattle.commit_graph.proofs.FactsHold.{FactsHold, AreLearned, IsOpenedName, l
 abbrev pub Appends : Looked → List Root → List Root → Type 0
 Appends look.Missing queue queue' = queue' ≡ queue
 Appends look.Unfit queue queue' = queue' ≡ queue
-Appends (look.Fit links) queue queue' = Extends queue (map pair_of links.items) queue'
+Appends (look.Fit links) queue queue' = Extends queue (map pair_of links.now) queue'
 
 -- the same for a look that is known by an equation
 pub appends : (queue queue' : List Root) {shown shown' : Looked} → shown ≡ shown'

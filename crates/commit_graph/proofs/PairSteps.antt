@@ -8,7 +8,6 @@ use Rattle.git_object.specs.Links.{links, IsWellFormed}
 use Rattle.commit_graph.specs.declared.root.Root.{Root}
 use Rattle.commit_graph.specs.declared.look.Looked.{Looked}
 use Rattle.commit_graph.specs.declared.look.Looked.TheVariants as looked
-use Rattle.commit_graph.specs.declared.fault.GetFault.{GetFault}
 use Rattle.commit_graph.specs.Objects.{Object, ObjectMap}
 use Rattle.commit_graph.specs.Pairs.{Accepts, IsMissing, IsFit, IsUnfit, IsLink, pair_of, is_commit_kind, is_commit_link}
 use Rattle.commit_graph.specs.Lists.{Extends, Follows}
@@ -107,20 +106,12 @@ parents_follow {objects} {p} {found} h grown = record {
   grown = grown;
 }
 
-shows_read : (objects : ObjectMap) (p : Root) (kind : Kind) (bytes : List ℕ) (shown : Looked)
-    → objects p.oid ≡ Some (kind, bytes) → Accepts p.kind kind → Reads kind bytes shown
-    → Shows objects p shown
-shows_read objects p kind bytes looked.Missing there expected h = absurd h
-shows_read objects p kind bytes looked.Unfit there expected h = record { kind = kind; bytes = bytes; there = there; unfit = λ _ formed. h formed }
-shows_read objects p kind bytes (looked.Fit found) there expected h =
-    record { fit = record { kind = kind; bytes = bytes; there = there; expected = expected; formed = h.0 }; are = h.1 }
-
--- what was read of an object that is there, and of the expected kind
-pub read_shows : (objects : ObjectMap) (p : Root) (kind : Kind) (bytes : List ℕ) (result : Result Looked GetFault)
-    → objects p.oid ≡ Some (kind, bytes) → Accepts p.kind kind → IfOk result (Reads kind bytes)
-    → IfOk result (Shows objects p)
-read_shows objects p kind bytes (Ok shown) there expected h = shows_read objects p kind bytes shown there expected h
-read_shows objects p kind bytes (Err fault) there expected h = tt
+-- what was read of an object that is there, of the expected kind and well formed
+pub read_fit : (objects : ObjectMap) (p : Root) (kind : Kind) (bytes : List ℕ) {found shown : List LinkTo}
+    → objects p.oid ≡ Some (kind, bytes) → Accepts p.kind kind → Reads kind bytes found true
+    → shown ≡ found → HasLinks objects p shown
+read_fit objects p kind bytes there expected h same =
+    record { fit = record { kind = kind; bytes = bytes; there = there; expected = expected; formed = h.0 }; are = same ∙ h.1 }
 
 -- what holds of each value of a kind holds of that of a result
 pub where_ok : {T E : Type 0} {P Q : T → Type 0} → ((x : T) → P x → Q x) → (result : Result T E)

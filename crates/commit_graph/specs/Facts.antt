@@ -59,7 +59,7 @@ pub record IsAccepted (objects : ObjectMap) (p : Root) : Type 0 where
 abbrev pub IsFitWith : Looked → List LinkTo → Type 0
 IsFitWith looked.Missing found = ⊥
 IsFitWith looked.Unfit found = ⊥
-IsFitWith (looked.Fit links) found = links.items ≡ found
+IsFitWith (looked.Fit links) found = links.now ≡ found
 
 -- a pair whose name has an object of this kind is fit with these links, which are taken, or unfit
 abbrev pub Takes : Root → Kind → List LinkTo → Fact → Fact → Looked → Type 0

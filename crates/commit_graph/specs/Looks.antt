@@ -1,5 +1,5 @@
 -- What one look at a pair shows, and the least name so far.
-use Rattle.std.specs.Prelude.{◌≡◌, ℕ, ◌⊎◌, List, Option, Some, None}
+use Rattle.std.specs.Prelude.{◌≡◌, ℕ, ◌⊎◌, Bool, true, false, List, Option, Some, None}
 use Rattle.std.specs.declared.cmp.Ordering.TheVariants.{Less}
 use Rattle.rad_base.specs.declared.names.Oid.{Oid}
 use Rattle.rad_base.specs.Order.{oid_cmp}
@@ -19,17 +19,16 @@ pub record HasLinks (objects : ObjectMap) (p : Root) (found : List LinkTo) : Typ
   pub fit : IsFit objects p
   pub are : found ≡ links fit.kind fit.bytes
 
--- what the content of an object of the expected kind shows
-abbrev pub Reads : Kind → List ℕ → Looked → Type 0
-Reads kind bytes looked.Missing = ⊥
-Reads kind bytes looked.Unfit = IsWellFormed kind bytes → ⊥
-Reads kind bytes (looked.Fit found) = IsWellFormed kind bytes × (found.items ≡ links kind bytes)
+-- whether a content of this kind is well formed; if it is, these are its links
+abbrev pub Reads : Kind → List ℕ → List LinkTo → Bool → Type 0
+Reads kind bytes found true = IsWellFormed kind bytes × (found ≡ links kind bytes)
+Reads kind bytes found false = IsWellFormed kind bytes → ⊥
 
 -- what a look at the pair shows
 abbrev pub Shows : ObjectMap → Root → Looked → Type 0
 Shows objects p looked.Missing = IsMissing objects p
 Shows objects p looked.Unfit = IsUnfit objects p
-Shows objects p (looked.Fit found) = HasLinks objects p found.items
+Shows objects p (looked.Fit found) = HasLinks objects p found.now
 
 -- the least of the best so far and one more
 abbrev pub IsLesser : Option Oid → Oid → Oid → Type 0

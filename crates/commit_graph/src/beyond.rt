@@ -16,6 +16,7 @@ use crate::reaching::add_names;
 use crate::root::is_expected;
 use crate::visited::Visited;
 use crate::{GetFault, Objects, Root};
+use git_object::LinkTo;
 use rad_base::{Oid, Steps};
 use std::alloc::Global;
 use std::collections::BTreeSet;
@@ -37,16 +38,17 @@ fn is_accepted<O: Objects>(objects: &mut O, pair: Root) -> Result<bool, GetFault
     }
 }
 
-/// Tests a pair, which is one step: what it shows, with the links that are followed from it. A
-/// known name has none, and another gives its links once.
-fn test_pair<O: Objects, L: Ledger>(
+/// Tests a pair, which is one step: what it shows, with the links that are followed from it, in the
+/// list of the walk. A known name has none, and another gives its links once.
+fn test_pair<'a, O: Objects, L: Ledger>(
     alloc: Global,
     objects: &mut O,
     known: &BTreeSet<Oid>,
     facts: &mut Facts,
     pair: Root,
+    links: &'a mut Vec<LinkTo>,
     steps: &mut Steps<L>,
-) -> Result<Looked, GetFault>
+) -> Result<Looked<'a>, GetFault>
     ensures told { ForSome (O.content objects.old) (λ m. IfOk result
         (λ looked. IsTested m known.now pair facts.old facts.new looked steps.old steps.new)) }
     ensures keeps { KeepsObjects O.content O.beside O.places O.faults Some objects.old objects.new
@@ -57,10 +59,10 @@ fn test_pair<O: Objects, L: Ledger>(
 {
     steps.tick();
     if !known.contains(&pair.oid) {
-        return facts.test(alloc, objects, pair, steps);
+        return facts.test(alloc, objects, pair, links, steps);
     }
     if is_accepted(objects, pair)? {
-        Ok(Looked::Fit(Vec::new(alloc)))
+        Ok(Looked::Fit(&[]))
     } else {
         Ok(Looked::Unfit)
     }
@@ -95,16 +97,17 @@ fn search<O: Objects, L: Ledger>(
 {
     let mut facts = Facts::new(alloc);
     let mut found = Visited::new(alloc);
+    let mut buffer = Vec::new(alloc);
     found.extend(roots)?;
     let mut missing = None;
     let mut unfit = None;
     let mut i = 0;
     while i < found.len() {
         let pair = found.at(i);
-        match test_pair(alloc, objects, known, &mut facts, pair, steps)? {
+        match test_pair(alloc, objects, known, &mut facts, pair, &mut buffer, steps)? {
             Looked::Missing => missing = Some(lesser(missing, pair.oid)),
             Looked::Unfit => unfit = Some(lesser(unfit, pair.oid)),
-            Looked::Fit(links) => found.follow(links.as_slice())?,
+            Looked::Fit(links) => found.follow(links)?,
         }
         i += 1;
     }

@@ -65,15 +65,20 @@ fn parents_among(alloc: Global, links: &[LinkTo]) -> Result<Vec<Oid>, AllocError
 }
 
 /// The parents of a commit, in order; none where the name has no well-formed commit.
-fn parents_at<O: Objects>(alloc: Global, objects: &mut O, oid: Oid) -> Result<Vec<Oid>, GetFault>
+fn parents_at<O: Objects>(
+    alloc: Global,
+    objects: &mut O,
+    oid: Oid,
+    buffer: &mut Vec<LinkTo>,
+) -> Result<Vec<Oid>, GetFault>
     ensures told { ForSome (O.content objects.old) (λ m. IfOk result (λ parents. (each : List Oid)
         → HasParents m oid each → each ≡ parents.items)) }
     ensures keeps { KeepsObjects O.content O.beside O.places O.faults Some objects.old objects.new
         result }
     ensures looked { O.looks objects.new ≤ O.looks objects.old + 1 }
 {
-    match look(alloc, objects, commit(oid))? {
-        Looked::Fit(links) => Ok(parents_among(alloc, links.as_slice())?),
+    match look(objects, commit(oid), buffer)? {
+        Looked::Fit(links) => Ok(parents_among(alloc, links)?),
         Looked::Missing | Looked::Unfit => Ok(Vec::new(alloc)),
     }
 }
@@ -102,13 +107,14 @@ pub fn chain<O: Objects>(alloc: Global, objects: &mut O, tip: &Oid) -> Result<Ch
         → O.looks objects.new ≤ O.looks objects.old + length commits) }
 {
     let mut line = Visited::new(alloc);
+    let mut buffer = Vec::new(alloc);
     let mut oid = *tip;
     'walking: loop {
         if line.contains(commit(oid)) {
             return Err(ChainFault::NoRoot(oid));
         }
         line.add(commit(oid))?;
-        let parents = parents_at(alloc, objects, oid)?;
+        let parents = parents_at(alloc, objects, oid, &mut buffer)?;
         match parents.as_slice() {
             [] => return Ok(Chain::of(names_back(alloc, line.as_slice())?)),
             [parent] => oid = *parent,

@@ -54,16 +54,17 @@ pub fn closure<O: Objects>(
         → O.looks objects.new ≤ O.looks objects.old + length pairs) }
 {
     let mut found = Visited::new(alloc);
+    let mut buffer = Vec::new(alloc);
     found.extend(roots)?;
     let mut missing = None;
     let mut unfit = None;
     let mut i = 0;
     while i < found.len() {
         let pair = found.at(i);
-        match look(alloc, objects, pair)? {
+        match look(objects, pair, &mut buffer)? {
             Looked::Missing => missing = Some(lesser(missing, pair.oid)),
             Looked::Unfit => unfit = Some(lesser(unfit, pair.oid)),
-            Looked::Fit(links) => found.follow(links.as_slice())?,
+            Looked::Fit(links) => found.follow(links)?,
         }
         i += 1;
     }

@@ -25,11 +25,13 @@ pub(crate) enum Fact {
     Waiting(Kind, Vec<LinkTo>),
 }
 
-// Looks up a name, which is one step.
+// Looks up a name, which is one step. Its links are read into the list of the walk, which then
+// waits with them.
 fn look_up<O: Objects, L: Ledger>(
     alloc: Global,
     objects: &mut O,
     oid: Oid,
+    links: &mut Vec<LinkTo>,
     steps: &mut Steps<L>,
 ) -> Result<Fact, GetFault>
     ensures told { ForSome (O.content objects.old) (λ m. IfOk result (IsRead m oid)) }
@@ -41,15 +43,23 @@ fn look_up<O: Objects, L: Ledger>(
     steps.tick();
     match objects.get(&oid)? {
         None => Ok(Fact::Missing),
-        Some((kind, bytes)) => match read(alloc, kind, bytes)? {
-            Looked::Fit(links) => Ok(Fact::Waiting(kind, links)),
-            Looked::Missing | Looked::Unfit => Ok(Fact::Malformed),
-        },
+        Some((kind, bytes)) => {
+            if !read(kind, bytes, links)? {
+                return Ok(Fact::Malformed);
+            }
+            Ok(Fact::Waiting(kind, mem::replace(links, Vec::new(alloc))))
+        }
     }
 }
 
-// What a pair shows by the fact of its name. One of the right kind takes the links that wait.
-fn shown_by(alloc: Global, fact: &mut Fact, pair: Root) -> Looked
+// What a pair shows by the fact of its name. One of the right kind takes the links that wait, whose
+// list is that of the walk from then on.
+fn shown_by<'a>(
+    alloc: Global,
+    fact: &mut Fact,
+    pair: Root,
+    links: &'a mut Vec<LinkTo>,
+) -> Looked<'a>
     ensures { ShowsFact pair fact.old fact.new result }
 {
     match fact {
@@ -59,14 +69,14 @@ fn shown_by(alloc: Global, fact: &mut Fact, pair: Root) -> Looked
             if !is_expected(pair.kind, *kind) {
                 return Looked::Unfit;
             }
-            Looked::Fit(Vec::new(alloc))
+            Looked::Fit(&[])
         }
-        Fact::Waiting(kind, links) => {
+        Fact::Waiting(kind, waiting) => {
             let kind = *kind;
             if !is_expected(pair.kind, kind) {
                 return Looked::Unfit;
             }
-            let links = mem::replace(links, Vec::new(alloc));
+            *links = mem::replace(waiting, Vec::new(alloc));
             *fact = Fact::Taken(kind);
             Looked::Fit(links)
         }
@@ -88,15 +98,16 @@ impl Facts {
         }
     }
 
-    /// What a pair shows, with the links that are followed from it; a name gives its links once. It
-    /// is looked up the first time, which is one step.
-    pub(crate) fn test<O: Objects, L: Ledger>(
+    /// What a pair shows, with the links that are followed from it, in the list of the walk; a name
+    /// gives its links once. It is looked up the first time, which is one step.
+    pub(crate) fn test<'a, O: Objects, L: Ledger>(
         &mut self,
         alloc: Global,
         objects: &mut O,
         pair: Root,
+        links: &'a mut Vec<LinkTo>,
         steps: &mut Steps<L>,
-    ) -> Result<Looked, GetFault>
+    ) -> Result<Looked<'a>, GetFault>
         ensures told { ForSome (O.content objects.old) (λ m. IfOk result
             (λ looked. IsTestedNew m pair self.old self.new looked steps.old steps.new)) }
         ensures keeps { KeepsObjects O.content O.beside O.places O.faults Some objects.old
@@ -106,10 +117,10 @@ impl Facts {
         ensures counted { steps.old ≤ steps.new }
     {
         if let Some(fact) = self.by_name.get_mut(&pair.oid) {
-            return Ok(shown_by(alloc, fact, pair));
+            return Ok(shown_by(alloc, fact, pair, links));
         }
-        let mut fact = look_up(alloc, objects, pair.oid, steps)?;
-        let looked = shown_by(alloc, &mut fact, pair);
+        let mut fact = look_up(alloc, objects, pair.oid, links, steps)?;
+        let looked = shown_by(alloc, &mut fact, pair, links);
         self.by_name.insert(pair.oid, fact)?;
         Ok(looked)
     }

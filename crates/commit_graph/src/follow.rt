@@ -1,4 +1,4 @@
-// One step of a walk.
+// One step of a walk, with the list into which it reads links.
 ghost use Rattle.std.specs.Prelude.{◌≡◌, ◌≤◌, ◌+◌, OnOk};
 ghost use Rattle.std.specs.Option.{ForSome};
 ghost use Rattle.commit_graph.specs.Faults.{KeepsObjects};
@@ -9,14 +9,14 @@ ghost use Rattle.commit_graph.specs.Histories.{IsParent};
 use crate::look::{Looked, look};
 use crate::visited::Visited;
 use crate::{GetFault, Objects, Root};
-use std::alloc::Global;
+use git_object::LinkTo;
 
 /// Adds those of the links of a pair that are not there yet.
 pub(crate) fn follow_links<O: Objects>(
-    alloc: Global,
     objects: &mut O,
     found: &mut Visited,
     pair: Root,
+    buffer: &mut Vec<LinkTo>,
 ) -> Result<(), GetFault>
     ensures told { ForSome (O.content objects.old)
         (λ m. OnOk result (Follows (IsLink m) pair found.old found.new)) }
@@ -24,18 +24,18 @@ pub(crate) fn follow_links<O: Objects>(
         result }
     ensures looked { O.looks objects.new ≤ O.looks objects.old + 1 }
 {
-    match look(alloc, objects, pair)? {
-        Looked::Fit(links) => Ok(found.follow(links.as_slice())?),
+    match look(objects, pair, buffer)? {
+        Looked::Fit(links) => Ok(found.follow(links)?),
         Looked::Missing | Looked::Unfit => Ok(()),
     }
 }
 
 /// Adds those of the parents of a pair that are not there yet.
 pub(crate) fn follow_parents<O: Objects>(
-    alloc: Global,
     objects: &mut O,
     found: &mut Visited,
     pair: Root,
+    buffer: &mut Vec<LinkTo>,
 ) -> Result<(), GetFault>
     ensures told { ForSome (O.content objects.old)
         (λ m. OnOk result (Follows (IsParent m) pair found.old found.new)) }
@@ -43,8 +43,8 @@ pub(crate) fn follow_parents<O: Objects>(
         result }
     ensures looked { O.looks objects.new ≤ O.looks objects.old + 1 }
 {
-    match look(alloc, objects, pair)? {
-        Looked::Fit(links) => Ok(found.follow_commits(links.as_slice())?),
+    match look(objects, pair, buffer)? {
+        Looked::Fit(links) => Ok(found.follow_commits(links)?),
         Looked::Missing | Looked::Unfit => Ok(()),
     }
 }

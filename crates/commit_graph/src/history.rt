@@ -30,6 +30,7 @@ pub fn in_history<O: Objects>(
         → O.looks objects.new ≤ O.looks objects.old + length commits) }
 {
     let mut found = Visited::new(alloc);
+    let mut buffer = Vec::new(alloc);
     found.add(commit(*new))?;
     let mut i = 0;
     while i < found.len() {
@@ -37,7 +38,7 @@ pub fn in_history<O: Objects>(
         if is_named(pair, old) {
             return Ok(true);
         }
-        follow_parents(alloc, objects, &mut found, pair)?;
+        follow_parents(objects, &mut found, pair, &mut buffer)?;
         i += 1;
     }
     Ok(false)
@@ -83,11 +84,12 @@ pub fn history_of<O: Objects>(
         → O.looks objects.new ≤ O.looks objects.old + length commits) }
 {
     let mut found = Visited::new(alloc);
+    let mut buffer = Vec::new(alloc);
     found.add(commit(*new))?;
     let mut i = 0;
     while i < found.len() {
         let pair = found.at(i);
-        follow_parents(alloc, objects, &mut found, pair)?;
+        follow_parents(objects, &mut found, pair, &mut buffer)?;
         i += 1;
     }
     Ok(History { found })

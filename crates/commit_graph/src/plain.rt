@@ -37,18 +37,18 @@ fn add_links(list: &mut Vec<Root>, links: &[LinkTo]) -> Result<(), AllocError>
 
 // Looks up a pair of the list, and adds those of its links that the list lacks.
 fn add_links_of<O: Objects>(
-    alloc: Global,
     objects: &mut O,
     list: &mut Vec<Root>,
     pair: Root,
+    buffer: &mut Vec<LinkTo>,
 ) -> Result<(), GetFault>
     ensures told { ForSome (O.content objects.old)
         (λ m. OnOk result (Follows (IsLink m) pair list.old.items list.new.items)) }
     ensures keeps { KeepsObjects O.content O.beside O.places O.faults Some objects.old objects.new
         result }
 {
-    match look(alloc, objects, pair)? {
-        Looked::Fit(links) => Ok(add_links(list, links.as_slice())?),
+    match look(objects, pair, buffer)? {
+        Looked::Fit(links) => Ok(add_links(list, links)?),
         Looked::Missing | Looked::Unfit => Ok(()),
     }
 }
@@ -72,10 +72,11 @@ fn reached_pairs<O: Objects>(
         result }
 {
     let mut list = Vec::from_slice(alloc, roots)?;
+    let mut buffer = Vec::new(alloc);
     let mut i = 0;
     while i < list.len() {
         let pair = pair_at(&list, i);
-        add_links_of(alloc, objects, &mut list, pair)?;
+        add_links_of(objects, &mut list, pair, &mut buffer)?;
         i += 1;
     }
     Ok(list)
@@ -96,8 +97,9 @@ pub fn closure_by_lists<O: Objects>(
     let pairs = reached_pairs(alloc, objects, roots)?;
     let mut missing = None;
     let mut unfit = None;
+    let mut buffer = Vec::new(alloc);
     for pair in &pairs {
-        match look(alloc, objects, *pair)? {
+        match look(objects, *pair, &mut buffer)? {
             Looked::Missing => missing = Some(lesser(missing, pair.oid)),
             Looked::Unfit => unfit = Some(lesser(unfit, pair.oid)),
             Looked::Fit(_) => {}

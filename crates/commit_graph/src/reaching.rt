@@ -26,11 +26,12 @@ fn walk<O: Objects>(alloc: Global, objects: &mut O, roots: &[Root]) -> Result<Vi
         → O.looks objects.new ≤ O.looks objects.old + length pairs) }
 {
     let mut found = Visited::new(alloc);
+    let mut buffer = Vec::new(alloc);
     found.extend(roots)?;
     let mut i = 0;
     while i < found.len() {
         let pair = found.at(i);
-        follow_links(alloc, objects, &mut found, pair)?;
+        follow_links(objects, &mut found, pair, &mut buffer)?;
         i += 1;
     }
     Ok(found)

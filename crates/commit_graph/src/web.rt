@@ -35,6 +35,7 @@ pub(crate) fn walk<O: Objects>(
         → O.looks objects.new ≤ O.looks objects.old + length pairs) }
 {
     let mut found = Visited::new(alloc);
+    let mut buffer = Vec::new(alloc);
     let mut back = Backward::new(alloc);
     let mut missing = BTreeSet::new(alloc);
     let mut unfit = BTreeSet::new(alloc);
@@ -42,7 +43,7 @@ pub(crate) fn walk<O: Objects>(
     let mut i = 0;
     while i < found.len() {
         let pair = found.at(i);
-        match look(alloc, objects, pair)? {
+        match look(objects, pair, &mut buffer)? {
             Looked::Missing => {
                 missing.insert(pair)?;
             }
@@ -50,8 +51,8 @@ pub(crate) fn walk<O: Objects>(
                 unfit.insert(pair)?;
             }
             Looked::Fit(links) => {
-                found.follow(links.as_slice())?;
-                back.add_links(alloc, pair, links.as_slice())?;
+                found.follow(links)?;
+                back.add_links(alloc, pair, links)?;
             }
         }
         i += 1;

@@ -1,9 +1,8 @@
-use Rattle.std.proofs.Common.{◌≡◌, List, map, Some, slice_get, take, sym, subst, ap, refl, ◌∙◌, arith}
+use Rattle.std.proofs.Common.{◌≡◌, List, Some, slice_get, take, sym, subst, refl, ◌∙◌, arith}
 use Rattle.std.proofs.lemmas.List.{take_all}
 use Rattle.std.proofs.lemmas.Option.{slice_get_within}
 use Rattle.commit_graph.specs.declared.root.Root.{Root}
 use Rattle.commit_graph.specs.declared.answer.Closure.{Closure}
-use Rattle.commit_graph.specs.Pairs.{pair_of}
 use Rattle.commit_graph.specs.Lists.{Extends}
 use Rattle.commit_graph.proofs.Adding.{extends_along}
 use Rattle.commit_graph.specs.Closures.{IsClosure}
@@ -56,7 +55,7 @@ loop-i-preserved g c = record {
       (elim c.match-branch-3.branch [
         | in-Missing w ↦ appends _ _ w.in-Missing.is w.found-is
         | in-Unfit w ↦ appends _ _ w.in-Unfit.is w.found-is
-        | in-Fit+in_ok-follow-in-Fit w ↦ appends _ _ w.in-Fit.is (extends_along (ap (map pair_of) w.as_slice.ensures.value) (sym w.found-is) w.in_ok-follow-in-Fit.ensures)
+        | in-Fit+in_ok-follow-in-Fit w ↦ appends _ _ w.in-Fit.is (extends_along refl (sym w.found-is) w.in_ok-follow-in-Fit.ensures)
       ]);
 }
 

@@ -1,10 +1,8 @@
-use Rattle.std.proofs.Common.{◌≡◌, List, take, refl, sym, ap, subst, ◌∙◌, arith}
-use Rattle.std.specs.Prelude.{map}
+use Rattle.std.proofs.Common.{◌≡◌, List, take, refl, sym, subst, ◌∙◌, arith}
 use Rattle.std.proofs.lemmas.List.{take_all}
 use Rattle.commit_graph.specs.declared.answer.Closure.{Closure}
 use Rattle.commit_graph.specs.declared.look.Looked.{Looked}
 use Rattle.commit_graph.specs.declared.root.Root.{Root}
-use Rattle.commit_graph.specs.Pairs.{pair_of}
 use Rattle.commit_graph.specs.Looks.{Shows}
 use Rattle.commit_graph.specs.Closures.{IsClosure}
 use Rattle.commit_graph.proofs.LookUps.{looks_turn, looks_all, looks_more}
@@ -33,7 +31,7 @@ loop-i-preserved g c = record {
         | in-Missing w ↦ turned_missing (subst shows w.in-Missing.is told) w.found-is w.missing-is w.lesser.ensures w.unfit-is
         | in-Unfit w ↦ turned_unfit (subst shows w.in-Unfit.is told) w.found-is w.missing-is w.unfit-is w.lesser-in-Unfit.ensures
         | in-Fit+in_ok-follow-in-Fit w ↦ turned_fit (subst shows w.in-Fit.is told)
-            (extends_along (ap (map pair_of) w.as_slice.ensures.value) (sym w.found-is) w.in_ok-follow-in-Fit.ensures) w.missing-is w.unfit-is
+            (extends_along refl (sym w.found-is) w.in_ok-follow-in-Fit.ensures) w.missing-is w.unfit-is
       ]);
 }
 

@@ -1,9 +1,6 @@
-use Rattle.std.proofs.Common.{refl, ap, subst}
-use Rattle.std.specs.Prelude.{map}
+use Rattle.std.proofs.Common.{refl, subst}
 use Rattle.commit_graph.specs.declared.look.Looked.{Looked}
 use Rattle.commit_graph.specs.Looks.{Shows}
-use Rattle.commit_graph.specs.Pairs.{pair_of}
-use Rattle.commit_graph.proofs.Adding.{extends_along}
 use Rattle.commit_graph.proofs.PairSteps.{links_follow, ends_follow}
 use Rattle.commit_graph.proofs.follow.follow_links.Goals as goal
 
@@ -11,7 +8,7 @@ pub returns-in_ok-follow-in-Fit-clause-told : goal.returns-in_ok-follow-in-Fit-c
 returns-in_ok-follow-in-Fit-clause-told g c = λ m e.
     let shows = λ (looked : Looked). Shows m c.args.pair looked in
     links_follow (subst shows c.in-Fit.is (c.in_ok-links.ensures.told m e))
-    (extends_along (ap (map pair_of) c.as_slice.ensures.value) refl c.in_ok-follow-in-Fit.ensures)
+    c.in_ok-follow-in-Fit.ensures
 
 pub returns-in-Missing-clause-told : goal.returns-in-Missing-clause-told
 returns-in-Missing-clause-told g c = λ m e. ends_follow (c.in_ok-links.ensures.told m e) c.in-Missing.is refl

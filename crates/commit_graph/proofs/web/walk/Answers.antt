@@ -1,8 +1,7 @@
-use Rattle.std.proofs.Common.{List, true, refl, sym, ap, subst, ◌∙◌, arith}
+use Rattle.std.proofs.Common.{List, true, refl, sym, subst, ◌∙◌, arith}
 use Rattle.std.specs.Prelude.{map}
 use Rattle.std.specs.BTreeSet.{BTreeSet, Updates}
 use Rattle.std.proofs.lemmas.List.{take_all}
-use Rattle.git_object.specs.declared.link.LinkTo.{LinkTo}
 use Rattle.commit_graph.specs.declared.backward.Backward.{Backward}
 use Rattle.commit_graph.specs.declared.look.Looked.{Looked}
 use Rattle.commit_graph.specs.declared.root.Root.{Root}
@@ -58,10 +57,8 @@ loop-i-preserved g c =
             | in-Unfit+in_ok-insert-in-Unfit w ↦ gathers_unfit old new (subst shows w.in-Unfit.is told) w.found-is w.back-is w.missing-is
                 (subst (λ (set : BTreeSet Root). Updates pair_cmp c.loop-i.unfit set x true) (sym w.unfit-is) w.in_ok-insert-in-Unfit.ensures.updates)
             | in-Fit+in_ok-follow-in-Fit+in_ok-add_links-in-Fit w ↦ gathers_fit old new (subst shows w.in-Fit.is told)
-                (extends_along (ap (map pair_of) w.as_slice.ensures.value) (sym w.found-is) w.in_ok-follow-in-Fit.ensures)
-                (subst (λ (links : List LinkTo). LinksAdded c.loop-i.back x (map pair_of links) c.match-branch-3.back) w.as_slice-in-Fit.ensures.value
-                (subst (λ (back : Backward). LinksAdded c.loop-i.back x (map pair_of w.as_slice-in-Fit.result.now) back) (sym w.back-is)
-                w.in_ok-add_links-in-Fit.ensures))
+                (extends_along refl (sym w.found-is) w.in_ok-follow-in-Fit.ensures)
+                (subst (λ (back : Backward). LinksAdded c.loop-i.back x (map pair_of w.in-Fit.links.now) back) (sym w.back-is) w.in_ok-add_links-in-Fit.ensures)
                 w.missing-is w.unfit-is
           ]);
     }
