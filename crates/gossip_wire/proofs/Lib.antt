@@ -10,3 +10,5 @@ pub mod MessageTexts
 pub mod OneFrame
 pub mod OneMessage
 pub mod Recordings
+pub mod Windows
+pub mod WireReads

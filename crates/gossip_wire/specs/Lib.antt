@@ -5,3 +5,4 @@ pub mod FramesSpelled
 pub mod Judging
 pub mod Messages
 pub mod Recordings
+pub mod Wires

@@ -18,6 +18,11 @@ mod reading;
 #[cfg(test)]
 mod tests;
 mod units;
+mod window;
+mod wire;
+mod wire_fault;
+#[cfg(test)]
+mod wire_tests;
 mod writing;
 
 pub use frame::{Body, Frame};
@@ -30,4 +35,6 @@ pub use laws::{
 };
 pub use message::{Addresses, Message, MessageFault};
 pub use reading::read_message;
+pub use wire::Wire;
+pub use wire_fault::WireFault;
 pub use writing::write_message;
