@@ -1,0 +1,4 @@
+pub mod Hearing
+pub mod KeyOrder
+pub mod OneTable
+pub mod Ranks
