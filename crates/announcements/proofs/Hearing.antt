@@ -1,5 +1,5 @@
 -- Hearing announcements in turn makes the table of those that count.
-use Rattle.std.proofs.Common.{◌≡◌, ℕ, Bool, true, false, cond, List, [], ◌∷◌, ◌++◌, Option, Some, None, refl, sym, ap, subst, cc, ⊎_elim, ◌∙◌}
+use Rattle.std.proofs.Common.{◌≡◌, ℕ, Bool, true, false, cond, List, [], ◌∷◌, ◌++◌, Option, Some, None, refl, sym, ap, subst, ⊎_elim, ◌∙◌}
 use Rattle.std.specs.Prelude.{Contains, filter, map}
 use Rattle.std.specs.Ordering.{is_eq, match_ordering}
 use Rattle.std.specs.declared.cmp.Ordering.{Ordering}
@@ -7,6 +7,7 @@ use Rattle.std.specs.declared.cmp.Ordering.TheVariants.{Less, Equal, Greater}
 use Rattle.std.proofs.lemmas.Cmp.{tied_itself}
 use Rattle.std.proofs.lemmas.List.{append-nil, append_assoc}
 use Rattle.std.proofs.lemmas.List.Elements.{Contains-append_left, Contains-push, Contains-push_cases}
+use Rattle.rad_base.proofs.Members.{contains_nothing}
 use Rattle.rad_base.proofs.NameOrder.{equal_from_is_eq}
 use Rattle.gossip_wire.specs.declared.message.Message.{Message}
 use Rattle.keyring.specs.Contents.{Contents}
@@ -19,7 +20,7 @@ use Rattle.announcements.specs.declared.heard.Heard.TheVariants.{Raised, Older, 
 use Rattle.announcements.specs.declared.kept.Kept.{Kept}
 use Rattle.announcements.specs.declared.key.Key.{Key}
 use Rattle.announcements.proofs.KeyOrder.{key_exact, key_total}
-use Rattle.announcements.proofs.Ranks.{below_through, not_above_itself}
+use Rattle.announcements.proofs.Ranks.{below_through, not_above_itself, rank_total}
 
 -- one that is raised is above what is kept
 raised_above : (o : Ordering) → match_ordering o Raised Same Older ≡ Raised → o ≡ Less
@@ -42,9 +43,10 @@ raised heard message (Some kept) greatest above =
     rw below refl
 
 pub raised_surpasses : RaisedSurpasses
-raised_surpasses heard table message is =
-    (surpasses heard message (table (key_of message)) (is (key_of message)),
-    raised heard message (table (key_of message)) (is (key_of message)))
+raised_surpasses heard table message is = (
+  surpasses heard message (table (key_of message)) (is (key_of message)),
+  raised heard message (table (key_of message)) (is (key_of message)),
+)
 
 -- one message more that is of another key
 other_key : (heard : List Message) (message : Message) (key : Key) (kept : Option Kept)
@@ -57,7 +59,7 @@ other_key heard message key (Some kept) apart greatest = record {
   of = greatest.of;
   is = greatest.is;
   most = λ other there same.
-    ⊎_elim (λ a. greatest.most other a same) (λ a. absurd (apart (ap key_of a ∙ same))) (Contains-push_cases heard message other there);
+      ⊎_elim (λ a. greatest.most other a same) (λ a. absurd (apart (ap key_of a ∙ same))) (Contains-push_cases heard message other there);
 }
 
 -- one message more that is not above what is kept of its key
@@ -70,7 +72,7 @@ lesser heard message key kept below greatest = record {
   of = greatest.of;
   is = greatest.is;
   most = λ other there same.
-    ⊎_elim (λ a. greatest.most other a same) (λ a h. below (rw a h)) (Contains-push_cases heard message other there);
+      ⊎_elim (λ a. greatest.most other a same) (λ a h. below (subst (λ (m : Message). rank_cmp (kept_of m) kept ≡ Greater) (sym a) h)) (Contains-push_cases heard message other there);
 }
 
 -- one message more that is above all of its key
@@ -82,7 +84,7 @@ greater heard message above = record {
   of = refl;
   is = refl;
   most = λ other there same.
-    ⊎_elim (λ a h. cc (above other a same, h)) (λ a h. not_above_itself (kept_of message) (rw a h)) (Contains-push_cases heard message other there);
+      ⊎_elim (λ a h. cc (above other a same, h)) (λ a h. not_above_itself (kept_of message) (subst (λ (m : Message). rank_cmp (kept_of m) (kept_of message) ≡ Greater) (sym a) h)) (Contains-push_cases heard message other there);
 }
 
 -- keys are one, or they are apart
@@ -104,3 +106,69 @@ tables_grow heard old new message is above keeps = λ key.
 -- the same is kept
 stays : (heard : List Message) (old new : Keeping) → IsTable heard old → IsSame old new → IsTable heard new
 stays heard old new is same = λ key. subst (IsKept heard key) (sym (same key)) (is key)
+
+-- one that is not raised, of a time that counts
+not_raised : (heard : List Message) (old new : Keeping) (message : Message) (kept : Kept) → old (key_of message) ≡ Some kept
+    → (rank_cmp (kept_of message) kept ≡ Greater → ⊥) → IsTable heard old → IsSame old new → IsTable (heard ++ message ∷ []) new
+not_raised heard old new message kept there below is same = λ key.
+    subst (IsKept (heard ++ message ∷ []) key) (sym (same key))
+    (by_keys key (key_of message)
+    (λ one.
+    let here : old key ≡ Some kept = ap old one ∙ there in
+    subst (IsKept (heard ++ message ∷ []) key) (sym here)
+    (lesser heard message key kept below (subst (IsKept heard key) here (is key))))
+    (λ apart. other_key heard message key (old key) (λ h. apart (sym h)) (is key)))
+
+-- one that counts is heard
+one_heard : (heard : List Message) (old new : Keeping) (message : Message) → IsTable heard old
+    → Follows (beside (old (key_of message)) (kept_of message)) message old new → IsTable (heard ++ message ∷ []) new
+one_heard heard old new message is = by_kept (old (key_of message)) refl
+  where
+    by_rank : (kept : Kept) (o : Ordering) → old (key_of message) ≡ Some kept → rank_cmp kept (kept_of message) ≡ o
+        → Follows (match_ordering o Raised Same Older) message old new → IsTable (heard ++ message ∷ []) new
+    by_rank kept Less there e follows =
+        let raise : beside (old (key_of message)) (kept_of message) ≡ Raised = rw (there, e) refl in
+        tables_grow heard old new message is (surpasses heard message (old (key_of message)) (is (key_of message)) raise) follows
+    by_rank kept Equal there e follows =
+        not_raised heard old new message kept there (λ h. cc (h, e, rank_total.antisymm (kept_of message) kept)) is follows
+    by_rank kept Greater there e follows =
+        not_raised heard old new message kept there (λ h. cc (h, e, rank_total.antisymm (kept_of message) kept)) is follows
+
+    by_kept : (o : Option Kept) → old (key_of message) ≡ o → Follows (beside o (kept_of message)) message old new
+        → IsTable (heard ++ message ∷ []) new
+    by_kept None e follows =
+        let raise : beside (old (key_of message)) (kept_of message) ≡ Raised = rw e refl in
+        tables_grow heard old new message is (surpasses heard message (old (key_of message)) (is (key_of message)) raise) follows
+    by_kept (Some kept) e follows = by_rank kept (rank_cmp kept (kept_of message)) e refl follows
+
+-- announcements heard behind others
+hears_from : (keyring : Contents) (before : List Message) (heard : List (Message × ℕ)) (old new : Keeping) → IsTable before old
+    → HearsAll keyring heard old new → IsTable (before ++ counted keyring heard) new
+hears_from keyring before [] old new is same = rw (append-nil before) (stays before old new is same)
+hears_from keyring before (x ∷ more) old new is hears =
+    by_verdict (λ some table. hears_from keyring some more hears.0 new table hears.2) (is_accepted keyring x.0) (is_early x.1 x.0) refl refl hears.1
+  where
+    uncounted : ((some : List Message) → IsTable some hears.0 → IsTable (some ++ counted keyring more) new)
+        → IsSame old hears.0 → counts keyring x ≡ false → IsTable (before ++ counted keyring (x ∷ more)) new
+    uncounted later same e = rw e (later before (stays before old hears.0 is same))
+
+    by_verdict : ((some : List Message) → IsTable some hears.0 → IsTable (some ++ counted keyring more) new)
+        → (accepted early : Bool) → is_accepted keyring x.0 ≡ accepted → is_early x.1 x.0 ≡ early
+        → Follows (answer old keyring x.1 x.0) x.0 old hears.0 → IsTable (before ++ counted keyring (x ∷ more)) new
+    by_verdict later false early e f follows =
+        let said : answer old keyring x.1 x.0 ≡ NotAccepted = rw e refl in
+        uncounted later (subst (λ (h : Heard). Follows h x.0 old hears.0) said follows) (rw e refl)
+    by_verdict later true true e f follows =
+        let said : answer old keyring x.1 x.0 ≡ Early = rw (e, f) refl in
+        uncounted later (subst (λ (h : Heard). Follows h x.0 old hears.0) said follows) (rw (e, f) refl)
+    by_verdict later true false e f follows =
+        let counts_it : counts keyring x ≡ true = rw (e, f) refl in
+        let said : answer old keyring x.1 x.0 ≡ beside (old (key_of x.0)) (kept_of x.0) = rw (e, f) refl in
+        let step : Follows (beside (old (key_of x.0)) (kept_of x.0)) x.0 old hears.0 = subst (λ (h : Heard). Follows h x.0 old hears.0) said follows in
+        let behind : IsTable ((before ++ x.0 ∷ []) ++ counted keyring more) new =
+        later (before ++ x.0 ∷ []) (one_heard before old hears.0 x.0 is step) in
+        rw counts_it (subst (λ (m : List Message). IsTable m new) (append_assoc before (x.0 ∷ []) (counted keyring more)) behind)
+
+pub hearing_makes_the_table : HearingMakesTheTable
+hearing_makes_the_table keyring heard table hears =
+    hears_from keyring [] heard nothing_kept table (λ key message there same. contains_nothing message there) hears

@@ -1,4 +1,9 @@
+pub mod Bits
+pub mod Entries
 pub mod Hearing
+pub mod Inventories
 pub mod KeyOrder
 pub mod OneTable
 pub mod Ranks
+pub mod Signed
+pub mod Told

@@ -1,5 +1,5 @@
 -- The order by time and bytes is total, and what is of one rank has one time and the same bytes.
-use Rattle.std.proofs.Common.{◌≡◌, refl, cc}
+use Rattle.std.proofs.Common.{◌≡◌, refl}
 use Rattle.std.specs.Cmp.{IsTotalOrder, nat_cmp_total}
 use Rattle.std.specs.Cmp.Lexicographic.{slice_cmp}
 use Rattle.std.specs.Ordering.{nat_cmp, then_cmp, on, ordering_reverse}

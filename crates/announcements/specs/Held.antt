@@ -1,6 +1,6 @@
 -- What a table of the program keeps, and what it has staged.
-use Rattle.std.specs.Prelude.{◌≡◌, ◌↔◌, ℕ, List, Option, Some, None, IsSome}
-use Rattle.std.specs.BTreeMap.{get}
+use Rattle.std.specs.Prelude.{◌≡◌, ◌↔◌, Bool, true, false, ◌&&◌, List, Option, Some, None, IsSome, is_none}
+use Rattle.std.specs.BTreeMap.{BTreeMap, get}
 use Rattle.std.specs.List.{Contains}
 use Rattle.std.specs.Option.{option_and_then, option_map}
 use Rattle.std.specs.declared.cmp.Ordering.{Ordering}
@@ -15,6 +15,7 @@ use Rattle.announcements.specs.declared.heard.Heard.{Heard}
 use Rattle.announcements.specs.declared.heard.Heard.TheVariants.{Raised}
 use Rattle.announcements.specs.declared.kept.Kept.{Kept}
 use Rattle.announcements.specs.declared.key.Key.{Key}
+use Rattle.announcements.specs.declared.key.Topic.{Topic}
 use Rattle.announcements.specs.declared.key.Topic.TheVariants as topics
 use Rattle.announcements.specs.declared.table.Table.{Table}
 
@@ -22,9 +23,13 @@ use Rattle.announcements.specs.declared.table.Table.{Table}
 abbrev pub map_cmp : Key → Key → Ordering
 map_cmp = cmp-value.it
 
+-- what is kept in places
+abbrev pub kept_at : BTreeMap Key (Option Kept) → Keeping
+kept_at places key = option_and_then (λ kept. kept) (get map_cmp places key)
+
 -- what a table keeps
 abbrev pub kept_in : Table → Keeping
-kept_in table key = option_and_then (λ kept. kept) (get map_cmp table.places key)
+kept_in table = kept_at table.places
 
 -- what is staged, with its key
 abbrev pub staged_in : Table → Option (Key × Kept)
@@ -49,6 +54,16 @@ Stages heard message table = staged_in table ≡ None
 -- the key of a node's inventory
 abbrev pub inventory_key : Nid → Key
 inventory_key node = record { topic = topics.Inventory; node = node; rid = None }
+
+-- whether a topic is the inventory
+abbrev pub is_inventory_topic : Topic → Bool
+is_inventory_topic topics.Node = false
+is_inventory_topic topics.Inventory = true
+is_inventory_topic topics.Refs = false
+
+-- whether a key is that of an inventory
+abbrev pub is_inventory_key : Key → Bool
+is_inventory_key key = is_inventory_topic key.topic && is_none key.rid
 
 -- the repositories of a node's inventory, if one is kept
 abbrev pub inventory_of : Keeping → Nid → Option (List Rid)

@@ -3,7 +3,8 @@ ghost use Rattle.std.specs.Prelude.{◌≡◌, ◌<◌, ◌≤◌, ◌*◌, ◌%
 ghost use Rattle.std.specs.Prelude.{IfOk, length, replicate};
 ghost use Rattle.std.specs.Int.{from_be_bytes, w16};
 ghost use Rattle.gossip_wire.specs.Fields.{IsFilterSize};
-ghost use Rattle.announcements.specs.Filters.{Adds, bits_of, filter_has, has_bit, size_bytes};
+ghost use Rattle.announcements.specs.Filters.{Adds, Sets, bits_of, filter_has};
+ghost use Rattle.announcements.specs.Filters.{has_bit, size_bytes};
 
 use rad_base::{NoMemory, Rid};
 use std::alloc::Global;
@@ -77,14 +78,24 @@ fn has_bit(bytes: &[u8], i: usize) -> bool
     }
 }
 
-// Sets a bit of a byte that is there.
+// Sets a bit. None is behind the last byte.
 fn set_bit(bytes: &mut [u8], i: usize)
-    requires { i < 8 * length bytes.old }
     ensures size { length bytes.new ≡ length bytes.old }
     ensures bits { (j : ℕ) → j < 8 * length bytes.old
         → has_bit bytes.new j ≡ (has_bit bytes.old j || (j == i)) }
 {
-    bytes[i / 8] |= 1 << (i % 8);
+    if i / 8 < bytes.len() {
+        bytes[i / 8] |= 1 << (i % 8);
+    }
+}
+
+// Sets some bits.
+fn set_bits(bytes: &mut [u8], bits: &[usize])
+    ensures { Sets bits.now bytes.old bytes.new }
+{
+    for i in bits {
+        set_bit(bytes, *i);
+    }
 }
 
 impl Filter {
@@ -134,9 +145,7 @@ impl Filter {
         ensures { Adds rid.now self.old self.new }
     {
         let bits = bits_of(self.bytes.len(), rid);
-        for i in bits {
-            set_bit(&mut self.bytes, i);
-        }
+        set_bits(&mut self.bytes, &bits);
     }
 
     /// Whether the filter has a repository.

@@ -1,6 +1,6 @@
 // What a message announces.
 ghost use Rattle.std.specs.Prelude.{◌≡◌, ◌++◌, IfSome, IfNone, IfOk, length, ◌≤◌};
-ghost use Rattle.std.specs.Prelude.{None, drop, take};
+ghost use Rattle.std.specs.Prelude.{◌↔◌, IsTrue, None, drop, take};
 ghost use Rattle.gossip_wire.specs.Messages.{message_text};
 ghost use Rattle.announcements.specs.Announcements.{Announces, IsAnnouncement, announced};
 ghost use Rattle.announcements.specs.Announcements.{is_accepted};
@@ -31,6 +31,16 @@ fn key_of_node(topic: Topic, node: &Nid) -> Key
     }
 }
 
+/// Whether a message is an announcement: it tells of a node, of what a node has, or of refs.
+pub fn is_announcement(message: &Message) -> bool
+    ensures { IsTrue result ↔ Announces message.now }
+{
+    matches!(
+        message,
+        Message::Node { .. } | Message::Inventory { .. } | Message::Refs { .. }
+    )
+}
+
 /// What a message announces. None exactly where it is no announcement.
 pub fn heading_of(message: &Message) -> Option<Heading<'_>>
     ensures key { IfSome result (λ heading. heading.key ≡ (announced message.now).key) }
@@ -40,7 +50,12 @@ pub fn heading_of(message: &Message) -> Option<Heading<'_>>
     ensures none { IfNone result (Announces message.now → ⊥) }
 {
     match message {
-        Message::Node { node, sig, time, .. } => Some(Heading {
+        Message::Node {
+            node,
+            sig,
+            time,
+            ..
+        } => Some(Heading {
             key: key_of_node(Topic::Node, node),
             sig: *sig,
             rids: &[],
@@ -83,9 +98,11 @@ fn signed_part(alloc: Global, bytes: &[u8]) -> Result<Vec<u8>, NoMemory>
     requires { 98 ≤ length bytes.now }
     ensures { IfOk result (λ part. part.items ≡ take 2 bytes.now ++ drop 98 bytes.now) }
 {
+    let (kind, _) = bytes.split_at(2);
+    let (_, announced) = bytes.split_at(98);
     let mut part = Vec::new(alloc);
-    part.extend_from_slice(&bytes[..2])?;
-    part.extend_from_slice(&bytes[98..])?;
+    part.extend_from_slice(kind)?;
+    part.extend_from_slice(announced)?;
     Ok(part)
 }
 

@@ -2,8 +2,8 @@
 #![tactic(auto)]
 
 mod filter;
-mod heard;
 mod heading;
+mod heard;
 mod kept;
 mod key;
 mod laws;
@@ -12,6 +12,7 @@ mod table;
 mod tests;
 
 pub use filter::{Filter, FilterSize};
+pub use heading::is_announcement;
 pub use heard::Heard;
 pub use kept::Kept;
 pub use key::{Key, Topic};

@@ -1,11 +1,13 @@
 // The table of the announcements that are kept.
-ghost use Rattle.std.specs.Prelude.{◌≡◌, IfOk, OnOk, OnErr, None, List};
+ghost use Rattle.std.specs.Prelude.{◌≡◌, IfOk, OnOk, OnErr, IsSome, None, List};
+ghost use Rattle.std.specs.BTreeMap.{get};
 ghost use Rattle.std.specs.Bool.{OnTrue, OnFalse};
 ghost use Rattle.std.specs.Option.{option_copied, option_map};
 ghost use Rattle.rad_base.specs.declared.names.Rid.{Rid};
 ghost use Rattle.announcements.specs.Announcements.{IsAnnouncement};
 ghost use Rattle.announcements.specs.Held.{HasStaged, HaveInventories, IsStaged, Stages};
-ghost use Rattle.announcements.specs.Held.{inventory_of, kept_in, staged_in};
+ghost use Rattle.announcements.specs.Held.{inventory_of, is_inventory_key, kept_at, kept_in};
+ghost use Rattle.announcements.specs.Held.{map_cmp, staged_in};
 ghost use Rattle.announcements.specs.Tables.{AreSince, Follows, HasCount, IsSame, Keeps};
 ghost use Rattle.announcements.specs.Tables.{answer, beside, is_wanted, nothing_kept};
 ghost use Rattle.announcements.specs.declared.kept.Kept.{Kept};
@@ -41,7 +43,11 @@ fn beside(kept: Option<&Kept>, time: u64, bytes: &[u8]) -> Heard
     let Some(kept) = kept else {
         return Heard::Raised;
     };
-    match kept.time.cmp(&time).then_with(|| kept.bytes.as_slice().cmp(bytes)) {
+    match kept
+        .time
+        .cmp(&time)
+        .then_with(|| kept.bytes.as_slice().cmp(bytes))
+    {
         Ordering::Less => Heard::Raised,
         Ordering::Equal => Heard::Same,
         Ordering::Greater => Heard::Older,
@@ -59,6 +65,32 @@ fn is_wanted(filter: &Filter, from: u64, to: u64, key: &Key, kept: &Kept) -> boo
         None => true,
         Some(rid) => filter.has(rid),
     }
+}
+
+// Whether a key is that of an inventory.
+fn is_inventory(key: &Key) -> bool
+    ensures { result ≡ is_inventory_key key.now }
+{
+    matches!(key.topic, Topic::Inventory) && key.rid.is_none()
+}
+
+// Makes the place of a key, where there is none.
+fn make_place(places: &mut BTreeMap<Key, Option<Kept>>, key: Key) -> Result<(), NoMemory>
+    ensures kept { IsSame (kept_at places.old) (kept_at places.new) }
+    ensures place { OnOk result (IsSome (get map_cmp places.new key)) }
+{
+    if !places.contains_key(&key) {
+        places.insert(key, None)?;
+    }
+    Ok(())
+}
+
+// Keeps an announcement of a key whose place is there, which takes no memory.
+fn put(places: &mut BTreeMap<Key, Option<Kept>>, key: Key, kept: Kept)
+    requires { IsSome (get map_cmp places.old key) }
+    ensures { Keeps key kept (kept_at places.old) (kept_at places.new) }
+{
+    let _put = places.insert(key, Some(kept));
 }
 
 impl Table {
@@ -93,16 +125,14 @@ impl Table {
         requires { self.old.staged ≡ None }
         ensures kept { IsSame (kept_in self.old) (kept_in self.new) }
         ensures staged { OnOk result (IsStaged self.new heading.now.key (record {
-            time = heading.now.time;
-            bytes = bytes.items;
-            rids = heading.now.rids.now;
+          time = heading.now.time;
+          bytes = bytes.items;
+          rids = heading.now.rids.now;
         })) }
         ensures none { OnErr result (staged_in self.new ≡ None) }
     {
         let rids = heading.rids.to_vec(alloc)?;
-        if !self.places.contains_key(&heading.key) {
-            self.places.insert(heading.key, None)?;
-        }
+        make_place(&mut self.places, heading.key)?;
         let kept = Kept {
             time: heading.time,
             bytes: Bytes::of(bytes),
@@ -157,8 +187,7 @@ impl Table {
     {
         if let Some((key, kept)) = self.staged.take() {
             if keep {
-                // The place is there, so this takes no memory.
-                let _put = self.places.insert(key, Some(kept));
+                put(&mut self.places, key, kept);
             }
         }
     }
@@ -193,7 +222,13 @@ impl Table {
     pub fn len(&self) -> usize
         ensures { HasCount (kept_in self.now) result }
     {
-        self.places.values().filter(|kept| kept.is_some()).count()
+        let mut count = 0;
+        for (_, kept) in self.places.iter() {
+            if kept.is_some() {
+                count += 1;
+            }
+        }
+        count
     }
 
     /// The messages that are kept and whose time is from `from` to `to`, both included, in order of
@@ -210,7 +245,7 @@ impl Table {
             AreSince (kept_in self.now) filter.now from to messages.items) }
     {
         let mut messages = Vec::new(alloc);
-        for (key, kept) in &self.places {
+        for (key, kept) in self.places.iter() {
             if let Some(kept) = kept {
                 if is_wanted(filter, from, to, key, kept) {
                     messages.push(Bytes::copy_of(alloc, kept.bytes.as_slice())?)?;
@@ -225,8 +260,8 @@ impl Table {
         ensures { IfOk result (HaveInventories (kept_in self.now)) }
     {
         let mut nodes = Nids::new(alloc);
-        for (key, kept) in &self.places {
-            if matches!(key.topic, Topic::Inventory) && kept.is_some() {
+        for (key, kept) in self.places.iter() {
+            if is_inventory(key) && kept.is_some() {
                 nodes.push(key.node)?;
             }
         }
