@@ -268,7 +268,7 @@ impl Table {
         Ok(nodes)
     }
 
-    /// The repositories of a node's inventory, strictly rising. None where none is kept.
+    /// The repositories of a node's inventory, as it lists them. None where none is kept.
     pub fn inventory(&self, node: &Nid) -> Option<&[Rid]>
         ensures { option_map (λ rids. rids.now) result ≡ inventory_of (kept_in self.now) node.now }
     {
