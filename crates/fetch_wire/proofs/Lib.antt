@@ -2,6 +2,9 @@ pub mod ObjectTexts
 pub mod OfferTexts
 pub mod OffersRead
 pub mod OneBundle
+pub mod RequestUnitTexts
+pub mod RequestsRead
+pub mod RequestsSpelled
 pub mod SectionsRead
 pub mod SectionsSpelled
 pub mod UnitTexts

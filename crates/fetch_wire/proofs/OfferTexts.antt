@@ -38,7 +38,7 @@ use Rattle.fetch_wire.proofs.SectionsRead.{unit_at}
 use Rattle.fetch_wire.proofs.UnitTexts.{ComeFrom, IsBegunOffer, Told, behind_fits, told_letter, told_refusal, two_bytes}
 
 -- bytes in their two parts
-cut : (n : ℕ) (bytes : List ℕ) → n ≤ length bytes → IsBytes bytes → IsFront n bytes (take n bytes) (drop n bytes)
+pub cut : (n : ℕ) (bytes : List ℕ) → n ≤ length bytes → IsBytes bytes → IsFront n bytes (take n bytes) (drop n bytes)
 cut n bytes enough fits = front_of n bytes (take n bytes) (drop n bytes) enough fits refl refl
 
 -- the first byte of some bytes, and the others
@@ -66,7 +66,7 @@ first_unit_is unit size fits first =
       front.whole,
     )
 
-two_small : (a b : ℕ) → a < 256 → b < 256 → (i : ℕ) → get_or (a ∷ b ∷ []) i 0 < 256
+pub two_small : (a b : ℕ) → a < 256 → b < 256 → (i : ℕ) → get_or (a ∷ b ∷ []) i 0 < 256
 two_small a b fa fb zero = fa
 two_small a b fa fb (suc zero) = fb
 two_small a b fa fb (suc (suc i)) = omega arith

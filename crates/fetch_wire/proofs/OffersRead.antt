@@ -38,13 +38,13 @@ above_of (a ∷ b ∷ rest) pair more rising =
     subst (λ (k : ℕ). passes_if_some (λ (r : Nid × Oid). is_lt (nid_cmp r.0 pair.0)) (slice_get (a ∷ b ∷ rest) k) ≡ true) (sym last) (above_of (b ∷ rest) pair more rising.1)
 
 -- the two parts of bytes of a known length
-front_of : (a b : List ℕ) (n : ℕ) → length a ≡ n → take n (a ++ b) ≡ a
+pub front_of : (a b : List ℕ) (n : ℕ) → length a ≡ n → take n (a ++ b) ≡ a
 front_of a b n size = subst (λ (k : ℕ). take k (a ++ b) ≡ a) size (take-append_seam a b)
 
 rest_of : (a b : List ℕ) (n : ℕ) → length a ≡ n → drop n (a ++ b) ≡ b
 rest_of a b n size = subst (λ (k : ℕ). drop k (a ++ b) ≡ b) size (drop-append_seam a b)
 
-byte_of : (a b : List ℕ) (n i : ℕ) → length a ≡ n → get_or (a ++ b) (n + i) 0 ≡ get_or b i 0
+pub byte_of : (a b : List ℕ) (n i : ℕ) → length a ≡ n → get_or (a ++ b) (n + i) 0 ≡ get_or b i 0
 byte_of a b n i size = subst (λ (k : ℕ). get_or (a ++ b) (k + i) 0 ≡ get_or b i 0) size (get_or-append-add a b i 0)
 
 -- the first unit of the head

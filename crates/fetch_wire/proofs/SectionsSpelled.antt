@@ -51,7 +51,7 @@ brings : BringsOn judge begun_text part_text IsBytes IsGood
 brings s t unit item good fits some fronts is = let b = brought s t unit item good fits is in (b.text, b.good)
 
 -- both parts of bytes are bytes
-both_fit : (a b : List ℕ) → IsBytes (a ++ b) → IsBytes a × IsBytes b
+pub both_fit : (a b : List ℕ) → IsBytes (a ++ b) → IsBytes a × IsBytes b
 both_fit a b fits = (front, back)
   where
     front : IsBytes a

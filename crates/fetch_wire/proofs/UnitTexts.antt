@@ -75,7 +75,7 @@ Told s unit (Ends item t) = Brings s unit item t
 Told s unit (Breaks broken) = Unit {0}
 
 -- the bytes of a unit of one, two and six
-one_byte : (unit : List ℕ) → length unit ≡ 1 → unit ≡ slice_index unit 0 ∷ []
+pub one_byte : (unit : List ℕ) → length unit ≡ 1 → unit ≡ slice_index unit 0 ∷ []
 one_byte [] e = absurd (omega arith)
 one_byte (a ∷ []) e = refl
 one_byte (a ∷ b ∷ rest) e = absurd (omega arith)

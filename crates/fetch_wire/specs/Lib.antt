@@ -1,5 +1,9 @@
 pub mod Bundles
 pub mod Judging
+pub mod RequestJudging
+pub mod RequestReaders
+pub mod RequestReadings
+pub mod Requests
 pub mod SectionReaders
 pub mod SectionReadings
 pub mod Sections

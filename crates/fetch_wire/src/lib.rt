@@ -1,10 +1,15 @@
-//! Sections of objects, from bytes that come in pieces of any length.
+//! Sections of objects and requests for them, from bytes that come in pieces of any length.
 #![tactic(auto)]
 
 mod fault;
 mod laws;
 mod part;
 mod parts;
+mod request;
+mod request_laws;
+mod request_reader;
+mod request_units;
+mod request_writing;
 mod section_reader;
 #[cfg(test)]
 mod tests;
@@ -18,6 +23,14 @@ pub use laws::{
 };
 pub use part::{Part, Which};
 pub use parts::Parts;
+pub use request::{Ask, Request, RequestFault};
+pub use request_laws::{
+    no_request_begins_another, requests_are_read_back, what_is_broken_begins_no_requests,
+    what_is_read_of_requests_is_spelled,
+};
+pub use request_reader::RequestReader;
+pub use request_units::{RequestUnits, Step};
+pub use request_writing::write_request;
 pub use section_reader::{Fed, SectionReader};
 pub use units::{Next, SectionUnits};
 pub use writing::{push_object, push_part, write_part};

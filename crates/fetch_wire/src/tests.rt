@@ -1,6 +1,8 @@
 // Sections in pieces of any length, and what is written of their parts.
 ghost use Rattle.fetch_wire.specs.Sections.{IsWithin};
 
+mod request_rows;
+mod requests;
 mod rows;
 
 use crate::{Break, Fed, Part, SectionFault, SectionReader, Which, push_object, write_part};
