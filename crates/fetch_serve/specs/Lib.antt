@@ -1,0 +1,4 @@
+pub mod Good
+pub mod Parts
+pub mod Replies
+pub mod Showings
