@@ -1,3 +1,4 @@
 pub mod Durables
 pub mod Events
 pub mod GoodStandings
+pub mod ShortContents

@@ -1,5 +1,5 @@
 -- What a history makes of each repository.
-use Rattle.std.specs.Prelude.{◌≡◌, ℕ, Bool, if◌then◌else◌, List, [], ◌∷◌, ◌++◌, Option, None, Some}
+use Rattle.std.specs.Prelude.{◌≡◌, ◌≤◌, ℕ, length, Bool, if◌then◌else◌, List, [], ◌∷◌, Option, None, Some}
 use Rattle.std.specs.Option.{option_or}
 use Rattle.std.specs.Ordering.{is_eq}
 use Rattle.rad_base.specs.Order.{rid_cmp}
@@ -54,6 +54,10 @@ after_items rid s (item ∷ items) = after_items rid (after_item rid s item) ite
 -- what a history makes of a repository
 abbrev pub replay : Rid → List Item → Standing
 replay rid items = after_items rid nothing_stands items
+
+-- no object has more than 33,554,432 bytes of content
+abbrev pub AreShort : ObjectMap → Type 0
+AreShort objects = (oid : Oid) (object : Object) → objects oid ≡ Some object → length object.1 ≤ 33554432
 
 -- it without its objects
 abbrev pub state_in : Rid → Standing → State

@@ -5,7 +5,7 @@ ghost use Rattle.rad_base.specs.declared.names.Rid.{Rid};
 ghost use Rattle.keyring.specs.Contents.{Contents};
 ghost use Rattle.repo_entries.specs.Items.{Item};
 ghost use Rattle.repo_slice.specs.Good.{IsGood};
-ghost use Rattle.legal_history.specs.Replays.{replay, replayed_state};
+ghost use Rattle.legal_history.specs.Replays.{AreShort, replay, replayed_state};
 ghost use Rattle.legal_history.specs.Durable.{durable_part};
 ghost use Rattle.legal_history.specs.Histories.{Legal};
 ghost use Rattle.legal_history.specs.Laws.{DoubtIsNamed, EventsKeepLegal, StopsLeaveLegal};
@@ -23,6 +23,12 @@ pub fn durable_parts_are_legal()
 pub fn slices_are_good()
     ensures { (keyring : Contents) (rid : Rid) (items : List Item) → Legal keyring items
         → IsGood (replay rid items).objects keyring (replayed_state rid items) }
+{}
+
+/// No object of what a legal history makes of a repository has more bytes than a put may give it.
+pub fn contents_are_short()
+    ensures { (keyring : Contents) (rid : Rid) (items : List Item) → Legal keyring items
+        → AreShort (replay rid items).objects }
 {}
 
 /// In a legal history each commit of a remote advances from every earlier one, so no list of

@@ -5,5 +5,6 @@
 mod laws;
 
 pub use laws::{
-    durable_parts_are_legal, events_keep_histories_legal, remotes_only_advance, slices_are_good,
+    contents_are_short, durable_parts_are_legal, events_keep_histories_legal, remotes_only_advance,
+    slices_are_good,
 };
