@@ -22,7 +22,7 @@ pub struct Case {
     pub plan: &'static [(u8, usize)],
 }
 
-const CASES: &[Case] = &[
+const FIRST: &[Case] = &[
     Case {
         accepts: &[
             (
@@ -490,6 +490,9 @@ const CASES: &[Case] = &[
         rules: b"{\"default\":\"allow\"}",
         plan: &[(3, 1)],
     },
+];
+
+const SECOND: &[Case] = &[
     Case {
         accepts: &[
             (
@@ -808,6 +811,9 @@ const CASES: &[Case] = &[
         rules: b"{\"repos\":{\"0101010101010101010101010101010101010101\":{}}}",
         plan: &[],
     },
+];
+
+const THIRD: &[Case] = &[
     Case {
         accepts: &[
             (
@@ -1169,6 +1175,14 @@ const CASES: &[Case] = &[
     },
 ];
 
-pub fn cases() -> &'static [Case] {
-    CASES
+pub fn first() -> &'static [Case] {
+    FIRST
+}
+
+pub fn second() -> &'static [Case] {
+    SECOND
+}
+
+pub fn third() -> &'static [Case] {
+    THIRD
 }
