@@ -12,6 +12,7 @@ pub mod Opening
 pub mod Putting
 pub mod Reading
 pub mod Remotes
+pub mod Replying
 pub mod Showing
 pub mod Standing
 pub mod Taking

@@ -5,6 +5,7 @@ pub mod Held
 pub mod Installs
 pub mod Opened
 pub mod Opens
+pub mod Replied
 pub mod Repositories
 pub mod Shown
 pub mod Stores

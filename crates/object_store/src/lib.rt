@@ -6,6 +6,7 @@ mod install;
 mod laws;
 mod missed;
 mod replayed;
+mod reply;
 mod repository;
 mod shown;
 mod store;

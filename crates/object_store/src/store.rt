@@ -19,20 +19,23 @@ ghost use Rattle.repo_entries.specs.Items.{Item, names_of};
 ghost use Rattle.entry_bodies.specs.Bodies.{install_size, install_text, put_size, put_text};
 ghost use Rattle.legal_history.specs.Cores.{Core};
 ghost use Rattle.object_store.specs.Installs.{HasFew, HasStagedInstall, IsVerdictAt};
+ghost use Rattle.object_store.specs.Replied.{IsReplyBy};
 ghost use Rattle.object_store.specs.Repositories.{HasStagedPut, IsIdle, IsPrepared, IsSame};
 ghost use Rattle.object_store.specs.Repositories.{own_rid};
 
 use crate::install::{judge_at, stage_install_at};
 use crate::missed::into_missed;
 use crate::replayed::{ReadFault, read_all};
+use crate::reply::reply_at;
 use crate::repository::{Repository, admit_at, claim_at, stage_put_at, unstage_at};
 use crate::shown::{is_bare, shown_names};
 use crate::wanted::{names_at, wants_at};
 use crate::{ClaimFault, StoreFault, Why};
 use canonical_head::answer::Head;
 use entry_bodies::{install_body, put_body};
+use fetch_wire::Request;
 use keyring::Keyring;
-use rad_base::{Nids, NoMemory, Offer, Oids, Remotes, Rid, Rids};
+use rad_base::{Nid, Nids, NoMemory, Offer, Oids, Remotes, Rid, Rids};
 use rad_outside::Disk;
 use ref_journal::{AppendFault, Journal, OpenFault, Parcel};
 use repo_slice::{Batch, Entry, History, Judged, KeepFault, Scope, Slice, Stage, Whole};
@@ -228,6 +231,29 @@ impl<D: Disk> Store<D> {
             Ok(Some(head)) => Ok(head),
             Ok(None) => Ok(Head::NoBranch),
             Err(_) => Err(KeepFault::NoMemory),
+        }
+    }
+
+    /// The reply to a request: to whom the document does not let see the repository, or where no
+    /// identity of it stands, the refusal 1; where a node has no remote, the refusal 2; else the
+    /// section of what is asked for and of none that the haves stand for, in order of name. It
+    /// changes nothing. Until contents are read from the disk the one refusal is `NoMemory`.
+    pub fn reply(
+        &mut self,
+        alloc: Global,
+        request: &Request,
+        asker: &Nid,
+        _caller: u64,
+    ) -> Result<Vec<u8>, KeepFault>
+        requires { StandsForSome self.old }
+        ensures same { self.new ≡ self.old }
+        ensures fault { IfErr result (λ why. why ≡ KeepFault.NoMemory) }
+        ensures reply { (items : List Item) → StandsFor self.old items → IfOk result
+            (λ bytes. IsReplyBy items self.old.keyring request.now asker.now bytes.items) }
+    {
+        match reply_at(alloc, &self.repositories, &self.keyring, request, asker) {
+            Ok(bytes) => Ok(bytes),
+            Err(NoMemory) => Err(KeepFault::NoMemory),
         }
     }
 

@@ -7,12 +7,13 @@ ghost use Rattle.repo_entries.specs.Batches.{IsBatch};
 ghost use Rattle.object_store.specs.Stores.{HasClaimed, StandsForSome};
 
 use crate::*;
+use fetch_wire::Request;
 use git_object::Kind;
 use identity_doc::IdFault;
 use journals::{JOURNALS, KEYRINGS, RECORDS};
 use keyring::Keyring;
 use offers::{CASES, Case, LINES, RECORDS as MORE_RECORDS};
-use rad_base::{Bytes, Nid, NoMemory, Offer, Oid, Oids, Remotes, Rid, parse_oid};
+use rad_base::{Bytes, Nid, Nids, NoMemory, Offer, Oid, Oids, Remotes, Rid, parse_oid};
 use rad_outside::{Fill, MemDisk};
 use repo_slice::{Batch, Entry, History, Judged, Left, Scope, Slice, Stage, Whole};
 use std::alloc::Global;
@@ -118,6 +119,78 @@ fn stores_open_as_told(rt: HostRuntime) -> Result<(), Fail> {
         assert_eq!(rt; found.0.as_str(), open);
         assert_eq!(rt; found.1.as_str(), slice);
     }
+    Ok(())
+}
+
+// A reply, in digits, or why there is none.
+fn reply_told(alloc: Global, reply: Result<Vec<u8>, KeepFault>) -> Result<String, Fail> {
+    match reply {
+        Ok(bytes) => Ok(hex::encode(alloc, &bytes)?),
+        Err(why) => Ok(format!(in alloc; "{why:?}")?),
+    }
+}
+
+// The replies of a store to who asks for the identity section of a repository and has nothing, and
+// has what the store has; who asks for the refs of a node that has none; and who asks for another.
+fn replies(
+    alloc: Global,
+    mut store: Store<MemDisk>,
+    rid: &Rid,
+) -> Result<(String, String, String, String), Fail>
+    requires { StandsForSome store }
+{
+    let asker = Nid([9; 32]);
+    let none = Oids::new(alloc);
+    let whole = store.reply(alloc, &Request::Begin(*rid, none), &asker, 1);
+    let had = store.have(alloc, rid)?;
+    let rest = store.reply(alloc, &Request::Begin(*rid, had), &asker, 1);
+    let mut nodes = Nids::new(alloc);
+    nodes.push(asker)?;
+    let sigs = Request::Sigs(*rid, Oids::new(alloc), nodes);
+    let lacking = store.reply(alloc, &sigs, &asker, 1);
+    let other = Request::Begin(Rid(Oid([7; 20])), Oids::new(alloc));
+    let unknown = store.reply(alloc, &other, &asker, 1);
+    Ok((
+        reply_told(alloc, whole)?,
+        reply_told(alloc, rest)?,
+        reply_told(alloc, lacking)?,
+        reply_told(alloc, unknown)?,
+    ))
+}
+
+#[test]
+fn requests_are_answered_by_what_stands(rt: HostRuntime) -> Result<(), Fail> {
+    let alloc = rt.alloc();
+    let (number, letters, digits, _, slice) = JOURNALS[0];
+    let disk = MemDisk::new(alloc, journal_of(alloc, letters, digits)?, Vec::new(alloc));
+    let rid = Rid(name(slice.as_bytes().get(..40).unwrap_or(b"")));
+    let (whole, rest, lacking, unknown) = match Store::open(alloc, disk, keyring(alloc, number)?) {
+        Ok(store) => replies(alloc, store, &rid)?,
+        Err(fault) => {
+            let why = why_told(alloc, fault.why)?;
+            (
+                why,
+                String::new(alloc),
+                String::new(alloc),
+                String::new(alloc),
+            )
+        }
+    };
+    let words = slice.as_bytes();
+    let id = words.get(41..81).unwrap_or(b"");
+    let node = words.get(85..149).unwrap_or(b"");
+    let commit = words.get(150..190).unwrap_or(b"");
+    let mut head = Vec::new(alloc);
+    for part in [b"49".as_slice(), id, b"0001", node, commit] {
+        head.extend_from_slice(part)?;
+    }
+    assert!(rt; whole.as_bytes().starts_with(&head));
+    assert!(rt; whole.as_bytes().ends_with(b"656e640a"));
+    assert!(rt; whole.len() > rest.len());
+    head.extend_from_slice(b"656e640a")?;
+    assert_eq!(rt; rest.as_bytes(), head.as_slice());
+    assert_eq!(rt; lacking.as_str(), "5202");
+    assert_eq!(rt; unknown.as_str(), "5201");
     Ok(())
 }
 
