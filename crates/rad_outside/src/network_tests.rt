@@ -115,6 +115,44 @@ fn clocks(rt: HostRuntime) -> Result<(), Fail> {
     Ok(())
 }
 
+// Nobody listens there, and the system gives that port to nobody who dials.
+const NOWHERE: &str = "127.0.0.1:1";
+
+// Fills a buffer with what comes, in however many pieces, and answers how many bytes came before the
+// end.
+fn take_all<S: Source>(source: &mut S, into: &mut [u8]) -> Result<usize, Failed> {
+    let mut filled = 0;
+    for _ in 0..into.len() {
+        if filled < into.len() {
+            filled += source.take(&mut into[filled..])?;
+        }
+    }
+    Ok(filled)
+}
+
+// Takes what comes up to the end. Whether the link failed in place of one.
+fn is_reset<S: Source>(source: &mut S) -> bool {
+    let mut into = [0u8; 8];
+    for _ in 0..u64::MAX {
+        match source.take(&mut into) {
+            Ok(0) => return false,
+            Ok(_) => {}
+            Err(Failed) => return true,
+        }
+    }
+    false
+}
+
+// Gives until the link fails. False: it never did.
+fn is_shut<S: Sink>(sink: &mut S) -> bool {
+    for _ in 0..u64::MAX {
+        if sink.give(b"again").is_err() {
+            return true;
+        }
+    }
+    false
+}
+
 #[test]
 fn a_connection(rt: HostRuntime) -> Result<(), Fail> {
     let alloc = rt.alloc();
@@ -130,23 +168,25 @@ fn a_connection(rt: HostRuntime) -> Result<(), Fail> {
     other.read_exact(&mut into[..3])?;
     assert_eq!(rt; into, *b"ask\0\0\0\0\0");
     other.write_all(b"an answer")?;
-    assert_eq!(rt; link.take(&mut into), Ok(8));
+    assert_eq!(rt; take_all(&mut link, &mut into), Ok(8));
     assert_eq!(rt; into, *b"an answe");
     drop(other);
-    assert_eq!(rt; link.take(&mut into), Ok(1));
+    assert_eq!(rt; take_all(&mut link, &mut into), Ok(1));
+    assert_eq!(rt; into[0], b'r');
     assert_eq!(rt; link.take(&mut into), Ok(0));
 
-    // The other end goes without reading: the connection is reset, and nobody reads any more.
+    // The other end goes while some of what came is unread: the connection is reset, and nobody
+    // reads any more.
     let mut link = TcpLink::new(rt, address.clone()?);
     assert_eq!(rt; link.give(b"ask"), Ok(3));
-    let (other, _) = listener.accept()?;
+    let (mut other, _) = listener.accept()?;
+    other.read_exact(&mut into[..1])?;
     drop(other);
-    assert_eq!(rt; link.take(&mut into), Err(Failed));
-    assert_eq!(rt; link.give(b"again"), Err(Failed));
+    assert!(rt; is_reset(&mut link));
+    assert!(rt; is_shut(&mut link));
 
     // Nobody listens, or there is no such address.
-    drop(listener);
-    for nowhere in [address.as_str(), "127.0.0.1", "nowhere.invalid:x"] {
+    for nowhere in [NOWHERE, "127.0.0.1", "nowhere.invalid:x"] {
         let mut link = TcpLink::new(rt, nowhere.to_string(alloc)?);
         assert_eq!(rt; link.give(b"ask"), Err(Failed), "{nowhere}");
         assert_eq!(rt; link.take(&mut into), Err(Failed), "{nowhere}");
@@ -169,22 +209,24 @@ fn doors_of_connections(rt: HostRuntime) -> Result<(), Fail> {
     let mut into = [0u8; 4];
     assert_eq!(rt; accepted.give(b"pong"), Ok(4));
     assert_eq!(rt; dialed.give(b"ping"), Ok(4));
-    assert_eq!(rt; accepted.take(&mut into), Ok(4));
+    assert_eq!(rt; take_all(&mut accepted, &mut into), Ok(4));
     assert_eq!(rt; into, *b"ping");
-    assert_eq!(rt; dialed.take(&mut into), Ok(4));
+    assert_eq!(rt; take_all(&mut dialed, &mut into), Ok(4));
     assert_eq!(rt; into, *b"pong");
     drop(dialed);
     assert_eq!(rt; accepted.take(&mut into), Ok(0));
 
-    // Another can't listen there. Nobody answers once these are gone.
+    // Another can't listen there, but can dial. Nobody answers where nobody listens.
     let mut second = TcpDoors::new(rt, address.clone()?);
     assert!(rt; second.accept().is_err());
-    drop(doors);
-    assert!(rt; second.dial(address.as_str()).is_err());
-    assert!(rt;
-        TcpDoors::new(rt, "nowhere".to_string(alloc)?)
-            .accept()
-            .is_err()
-    );
+    assert_eq!(rt; open(&mut doors, Some(NOWHERE)), Err(Failed));
+    let (Ok(mut dialed), Ok(mut accepted)) = (second.dial(address.as_str()), doors.accept()) else {
+        return Err(Fail::from(io::Error::from(io::ErrorKind::Other)));
+    };
+    assert_eq!(rt; dialed.give(b"more"), Ok(4));
+    assert_eq!(rt; take_all(&mut accepted, &mut into), Ok(4));
+    assert_eq!(rt; into, *b"more");
+    let mut nowhere = TcpDoors::new(rt, "nowhere".to_string(alloc)?);
+    assert_eq!(rt; open(&mut nowhere, None), Err(Failed));
     Ok(())
 }
