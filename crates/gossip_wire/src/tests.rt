@@ -4,12 +4,16 @@ ghost use Rattle.gossip_wire.specs.Frames.{IsBody};
 
 mod frame_rows;
 mod message_rows;
+mod more_stream_rows;
+mod stream_rows;
+mod wires;
 
 use crate::bodies::are_bytes;
 use crate::{
-    Body, Frame, FrameFault, FrameReader, Message, MessageFault, WriteFault, read_message,
-    write_frame, write_message,
+    Body, Frame, FrameReader, Message, MessageFault, WriteFault, read_message, write_frame,
+    write_message,
 };
+use frame_rows::{End, Row};
 use rad_base::Bytes;
 use std::alloc::Global;
 use std::test::Fail;
@@ -56,15 +60,16 @@ fn kind_of(alloc: Global, bytes: &[u8]) -> Result<u16, Fail> {
 
 // Whether a row's bytes are read so, and no front of a message is one.
 fn is_message_row(alloc: Global, row: &message_rows::Row) -> Result<bool, Fail> {
-    let bytes = bytes_of(alloc, row.runs)?;
-    if row.kind > 0 {
+    let (runs, kind) = *row;
+    let bytes = bytes_of(alloc, runs)?;
+    if kind > 0 {
         for cut in 0..bytes.len() {
             if kind_of(alloc, &bytes[..cut])? != 0 {
                 return Ok(false);
             }
         }
     }
-    Ok(kind_of(alloc, &bytes)? == row.kind)
+    Ok(kind_of(alloc, &bytes)? == kind)
 }
 
 // Whether all rows are read so.
@@ -80,65 +85,81 @@ fn are_message_rows(alloc: Global, rows: &[message_rows::Row]) -> Result<bool, F
 #[test]
 fn messages_are_read_and_written(rt: HostRuntime) -> Result<(), Fail> {
     let alloc = rt.alloc();
-    assert!(rt; are_message_rows(alloc, message_rows::first())?);
-    assert!(rt; are_message_rows(alloc, message_rows::second())?);
-    assert!(rt; are_message_rows(alloc, message_rows::third())?);
-    assert!(rt; are_message_rows(alloc, message_rows::fourth())?);
+    for rows in message_rows::all() {
+        assert!(rt; are_message_rows(alloc, rows)?);
+    }
     Ok(())
 }
 
-// What a reader made of pieces: the frames, and how it refused.
+// What was read of bytes: the frames, and how they end.
 #[derive(Drop)]
 struct Heard {
     frames: Vec<(u64, u8, u64, u8)>,
-    fault: Option<FrameFault>,
+    end: Option<End>,
 }
 
-// Adds frames, each as its place, kind, number and side.
-fn hear(heard: &mut Heard, frames: &[(u64, Frame)]) -> Result<(), Fail> {
-    for (place, frame) in frames {
+impl Heard {
+    fn new(alloc: Global) -> Self {
+        Heard {
+            frames: Vec::new(alloc),
+            end: None,
+        }
+    }
+
+    // Adds a frame, as its place, kind, number and side.
+    fn add(&mut self, place: u64, frame: &Frame) -> Result<(), Fail> {
         let kind = match &frame.body {
             Body::Control(_) => 0,
             Body::Gossip(_) => 1,
             Body::Git(_) => 2,
         };
-        heard.frames.push((*place, kind, frame.number, frame.side))?;
+        self.frames.push((place, kind, frame.number, frame.side))?;
+        Ok(())
     }
-    Ok(())
+
+    fn add_all(&mut self, frames: &[(u64, Frame)]) -> Result<(), Fail> {
+        for (place, frame) in frames {
+            self.add(*place, frame)?;
+        }
+        Ok(())
+    }
+
+    // Whether this is what a row says.
+    fn is(&self, row: &Row) -> bool {
+        self.frames.as_slice() == row.1 && self.end == Some(row.2)
+    }
 }
 
+// What a reader makes of pieces.
 fn heard_of(alloc: Global, pieces: &[&[u8]]) -> Result<Heard, Fail> {
     let mut reader = FrameReader::new(alloc);
-    let mut heard = Heard {
-        frames: Vec::new(alloc),
-        fault: None,
-    };
+    let mut heard = Heard::new(alloc);
+    let mut refused = None;
     for piece in pieces {
         match reader.feed(alloc, piece) {
-            Ok(frames) => hear(&mut heard, &frames)?,
+            Ok(frames) => heard.add_all(&frames)?,
             Err(fault) => {
-                if heard.fault.is_none() {
-                    hear(&mut heard, reader.before())?;
+                if refused.is_none() {
+                    heard.add_all(reader.before())?;
                 }
-                heard.fault = Some(fault);
+                refused = Some(fault);
             }
         }
     }
+    heard.end = Some(match (refused, reader.unfinished()) {
+        (Some(fault), _) => End::Broken(fault),
+        (None, Some(place)) => End::Inside(place),
+        (None, None) => End::Whole,
+    });
     Ok(heard)
 }
 
-// Whether pieces are read as a row says.
-fn are_read(alloc: Global, pieces: &[&[u8]], row: &frame_rows::Row) -> Result<bool, Fail> {
-    let heard = heard_of(alloc, pieces)?;
-    Ok(heard.frames.as_slice() == row.frames && heard.fault == row.fault)
-}
-
 // Whether a row's bytes are read so, cut at each place, and byte by byte.
-fn is_frame_row(alloc: Global, row: &frame_rows::Row) -> Result<bool, Fail> {
-    let bytes = bytes_of(alloc, row.runs)?;
+fn is_frame_row(alloc: Global, row: &Row) -> Result<bool, Fail> {
+    let bytes = bytes_of(alloc, row.0)?;
     for cut in 0..=bytes.len() {
         let (front, back) = bytes.split_at(cut);
-        if !are_read(alloc, &[front, back], row)? {
+        if !heard_of(alloc, &[front, back])?.is(row) {
             return Ok(false);
         }
     }
@@ -146,11 +167,11 @@ fn is_frame_row(alloc: Global, row: &frame_rows::Row) -> Result<bool, Fail> {
     for byte in bytes.chunks(1) {
         single.push(byte)?;
     }
-    are_read(alloc, &single, row)
+    Ok(heard_of(alloc, &single)?.is(row))
 }
 
 // Whether all rows are read so.
-fn are_frame_rows(alloc: Global, rows: &[frame_rows::Row]) -> Result<bool, Fail> {
+fn are_frame_rows(alloc: Global, rows: &[Row]) -> Result<bool, Fail> {
     for row in rows {
         if !is_frame_row(alloc, row)? {
             return Ok(false);
@@ -162,12 +183,15 @@ fn are_frame_rows(alloc: Global, rows: &[frame_rows::Row]) -> Result<bool, Fail>
 #[test]
 fn frames_are_read_however_they_are_cut(rt: HostRuntime) -> Result<(), Fail> {
     let alloc = rt.alloc();
-    assert!(rt; are_frame_rows(alloc, frame_rows::first())?);
-    assert!(rt; are_frame_rows(alloc, frame_rows::second())?);
-    assert!(rt; are_frame_rows(alloc, frame_rows::third())?);
-    assert!(rt; are_frame_rows(alloc, frame_rows::fourth())?);
-    assert!(rt; are_frame_rows(alloc, frame_rows::fifth())?);
-    assert!(rt; are_frame_rows(alloc, frame_rows::sixth())?);
+    for rows in frame_rows::all() {
+        assert!(rt; are_frame_rows(alloc, rows)?);
+    }
+    for rows in stream_rows::all() {
+        assert!(rt; are_frame_rows(alloc, rows)?);
+    }
+    for rows in more_stream_rows::all() {
+        assert!(rt; are_frame_rows(alloc, rows)?);
+    }
     Ok(())
 }
 
