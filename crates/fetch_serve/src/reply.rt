@@ -1,7 +1,8 @@
 // The reply to a request.
-ghost use Rattle.std.specs.Prelude.{◌≡◌, ◌↔◌, ◌≤◌, IfOk, IsTrue, None, Some, IfSome, length};
+ghost use Rattle.std.specs.Prelude.{◌≡◌, ◌↔◌, ◌≤◌, IfErr, IfOk, IsTrue, None, Some, IfSome, length};
 ghost use Rattle.std.specs.Option.{ForSome};
 ghost use Rattle.commit_graph.specs.Faults.{KeepsObjects};
+ghost use Rattle.commit_graph.specs.declared.fault.GetFault.TheVariants.{NoMemory};
 ghost use Rattle.identity_doc.specs.Documents.{Sees};
 ghost use Rattle.identity_doc.specs.IdentityChains.{HasIdentity};
 ghost use Rattle.identity_doc.specs.IdentityFaults.{id_fault_in};
@@ -107,6 +108,7 @@ pub fn answer<O: Objects>(
 ) -> Result<Vec<u8>, GetFault>
     requires { IfSome shown (λ s. length s.remotes.now ≤ 1024) }
     ensures hidden { shown.entry ≡ None → IfOk result (λ bytes. bytes.items ≡ refusal_text 1) }
+    ensures fault { shown.entry ≡ None → IfErr result (λ why. why ≡ NoMemory) }
     ensures told { IfSome shown.entry (λ s. ForSome (O.content s.objects.now) (λ m.
         IsGoodFor (showing m s.id s.remotes.now) keyring.now request.now
         → IfOk result (λ bytes. IsReply (showing m s.id s.remotes.now) keyring.now request.now

@@ -92,6 +92,59 @@ const OBJECTS: [(Kind, &[&[u8]]); 11] = [
     ),
 ];
 
+// Another commit of refs, which name a commit whose tree has the first one as a gitlink.
+const LINKING: &[u8] = b"f43e050e3ad00c22f8fe4d6de98970ec923cde0b";
+
+const LINKED: [(Kind, &[&[u8]]); 5] = [
+    (
+        Kind::Tree,
+        &[b"3136303030302067003e1b518495d570d7b8990ffb2c453ad2bfdc097e"],
+    ),
+    (
+        Kind::Commit,
+        &[
+            b"74726565206161303663316131303361646239653763376438306430633532636430633762663731",
+            b"39316634310a617574686f722061203c6140623e2030202b303030300a636f6d6d69747465722061",
+            b"203c6140623e2030202b303030300a0a6d0a",
+        ],
+    ),
+    (
+        Kind::Blob,
+        &[
+            b"30626637396431653261383934663866326563653434336266306562333766396265663038303036",
+            b"20726566732f68656164732f6d0a",
+        ],
+    ),
+    (
+        Kind::Tree,
+        &[
+            b"3130303634342072656673003e3cfe535a4786cf059054e1182d706336c686e83130303634342073",
+            b"69676e617475726500d851fb50193e055eb7c6c480bf124fb0546bb90e",
+        ],
+    ),
+    (
+        Kind::Commit,
+        &[
+            b"74726565203430653334383763363031656165636366623636313864303435616164636662653066",
+            b"37393265390a617574686f722061203c6140623e2030202b303030300a636f6d6d69747465722061",
+            b"203c6140623e2030202b303030300a0a6d0a",
+        ],
+    ),
+];
+
+const LINKED_CASE: Case = Case {
+    asked: Asked::Tips,
+    haves: &[],
+    nodes: &[1],
+    asker: 1,
+    reply: &[
+        b"444f0100000062747265652061613036633161313033616462396537633764383064306335326364",
+        b"3063376266373139316634310a617574686f722061203c6140623e2030202b303030300a636f6d6d",
+        b"69747465722061203c6140623e2030202b303030300a0a6d0a4f020000001d313630303030206700",
+        b"3e1b518495d570d7b8990ffb2c453ad2bfdc097e656e640a",
+    ],
+};
+
 // What is asked.
 #[derive(Clone, Copy)]
 enum Asked {
@@ -252,15 +305,19 @@ fn repository(alloc: Global) -> Result<MemObjects, Fail> {
         let content = decoded(alloc, pieces)?;
         objects.put(alloc, kind, &content)?;
     }
+    for (kind, pieces) in LINKED {
+        let content = decoded(alloc, pieces)?;
+        objects.put(alloc, kind, &content)?;
+    }
     Ok(objects)
 }
 
-fn remotes_of(alloc: Global, nodes: &[u8]) -> Result<Remotes, NoMemory> {
+fn remotes_of(alloc: Global, nodes: &[u8], signed: &[u8]) -> Result<Remotes, NoMemory> {
     let mut remotes = Remotes::new(alloc);
     for node in nodes {
         let key = Nid([*node; 32]);
         if remotes.is_above(&key) {
-            remotes.push(key, name(SIGNED))?;
+            remotes.push(key, name(signed))?;
         }
     }
     Ok(remotes)
@@ -283,14 +340,16 @@ fn request_of(alloc: Global, case: &Case) -> Result<Request, NoMemory> {
     })
 }
 
-// The reply to a case; none where it asks nothing, or there are too many remotes.
+// The reply to a case, where this is the commit of signed refs; none where there are too many
+// remotes.
 fn reply_of(
     alloc: Global,
     objects: &mut MemObjects,
     keyring: &Keyring,
     case: &Case,
+    signed: &[u8],
 ) -> Result<Vec<u8>, Fail> {
-    let remotes = remotes_of(alloc, &[1])?;
+    let remotes = remotes_of(alloc, &[1], signed)?;
     if remotes.as_slice().len() > 1024 {
         return Ok(Vec::new(alloc));
     }
@@ -310,9 +369,19 @@ fn replies_are_those_of_an_independent_program(rt: HostRuntime) -> Result<(), Fa
     let mut objects = repository(alloc)?;
     let keyring = Keyring::read(alloc, b"")?;
     for case in CASES {
-        let reply = reply_of(alloc, &mut objects, &keyring, &case)?;
+        let reply = reply_of(alloc, &mut objects, &keyring, &case, SIGNED)?;
         assert_eq!(rt; reply, decoded(alloc, case.reply)?);
     }
+    Ok(())
+}
+
+#[test]
+fn a_gitlink_is_not_followed(rt: HostRuntime) -> Result<(), Fail> {
+    let alloc = rt.alloc();
+    let mut objects = repository(alloc)?;
+    let keyring = Keyring::read(alloc, b"")?;
+    let reply = reply_of(alloc, &mut objects, &keyring, &LINKED_CASE, LINKING)?;
+    assert_eq!(rt; reply, decoded(alloc, LINKED_CASE.reply)?);
     Ok(())
 }
 
@@ -321,7 +390,7 @@ fn a_stranger_is_told_what_is_told_of_nothing(rt: HostRuntime) -> Result<(), Fai
     let alloc = rt.alloc();
     let mut objects = repository(alloc)?;
     let keyring = Keyring::read(alloc, b"")?;
-    let stranger = reply_of(alloc, &mut objects, &keyring, &CASES[0])?;
+    let stranger = reply_of(alloc, &mut objects, &keyring, &CASES[0], SIGNED)?;
     let request = request_of(alloc, &CASES[0])?;
     let nothing: Option<Shown<'_, MemObjects>> = None;
     let unknown = answer(alloc, nothing, &keyring, &request, &Nid([1; 32]))?;
