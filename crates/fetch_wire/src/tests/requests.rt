@@ -2,7 +2,7 @@
 ghost use Rattle.fetch_wire.specs.Requests.{IsWithinLimits};
 
 use super::decoded;
-use super::request_rows::{ROWS, Row};
+use super::request_rows::{Row, all};
 use crate::{Request, RequestFault, RequestReader, write_request};
 use rad_base::{Nid, Nids, Oid, Oids, Rid};
 use std::alloc::Global;
@@ -51,14 +51,19 @@ fn heard_of(alloc: Global, pieces: &[&[u8]]) -> Result<Heard, Fail> {
     Ok(Heard { letters, broken })
 }
 
+// Whether these pieces are read as a row says.
+fn are_heard(alloc: Global, pieces: &[&[u8]], row: &Row) -> Result<bool, Fail> {
+    let heard = heard_of(alloc, pieces)?;
+    let place = row.broken.map(|broken| broken.0);
+    Ok(heard.letters.as_slice() == row.requests && heard.broken == place)
+}
+
 // Whether a row is read so, cut at each place; the front shows a break exactly where it may.
 fn is_read(alloc: Global, row: &Row) -> Result<bool, Fail> {
     let bytes = decoded(alloc, row.digits)?;
-    let place = row.broken.map(|broken| broken.0);
     for cut in 0..=bytes.len() {
         let (front, back) = bytes.split_at(cut);
-        let heard = heard_of(alloc, &[front, back])?;
-        if heard.letters.as_slice() != row.requests || heard.broken != place {
+        if !are_heard(alloc, &[front, back], row)? {
             return Ok(false);
         }
         let shows = row.broken.is_some_and(|broken| broken.1 <= cut);
@@ -69,14 +74,30 @@ fn is_read(alloc: Global, row: &Row) -> Result<bool, Fail> {
     Ok(true)
 }
 
-fn all_rows() -> &'static [Row] {
-    ROWS
+// Whether a row is read so byte by byte.
+fn is_read_in_bytes(alloc: Global, row: &Row) -> Result<bool, Fail> {
+    let bytes = decoded(alloc, row.digits)?;
+    let mut single = Vec::new(alloc);
+    for byte in bytes.chunks(1) {
+        single.push(byte)?;
+    }
+    are_heard(alloc, &single, row)
+}
+
+// Whether all rows are read so.
+fn are_read(alloc: Global, rows: &[Row]) -> Result<bool, Fail> {
+    for row in rows {
+        if !is_read(alloc, row)? || !is_read_in_bytes(alloc, row)? {
+            return Ok(false);
+        }
+    }
+    Ok(true)
 }
 
 #[test]
 fn requests_are_read_however_they_are_cut(rt: HostRuntime) -> Result<(), Fail> {
-    for row in all_rows() {
-        assert!(rt; is_read(rt.alloc(), row)?);
+    for rows in all() {
+        assert!(rt; are_read(rt.alloc(), rows)?);
     }
     Ok(())
 }
