@@ -2,6 +2,7 @@
 ghost use Rattle.std.specs.Prelude.{IfOk, IfSome};
 ghost use Rattle.announcements.specs.Announcements.{IsAnnouncement};
 
+mod more_plan_rows;
 mod plan_rows;
 mod rules_rows;
 
@@ -9,7 +10,7 @@ use crate::{Planned, Routes, Rules, RulesFault, plan};
 use announcements::{Table, is_announcement};
 use gossip_wire::{Message, read_message};
 use keyring::Keyring;
-use plan_rows::Case;
+use plan_rows::{Case, Said};
 use rad_base::{Nid, Oid, Rid};
 use repo_slice::Scope;
 use rules_rows::Answer;
@@ -84,13 +85,63 @@ fn rules_say_what_is_taken(rt: HostRuntime) -> Result<(), Fail> {
     Ok(())
 }
 
-// The bytes of runs of digits.
-fn bytes_of(alloc: Global, runs: &[(&[u8], usize)]) -> Result<Vec<u8>, Fail> {
+// Adds a byte so many times.
+fn push_all(bytes: &mut Vec<u8>, byte: u8, times: usize) -> Result<(), Fail> {
+    for _ in 0..times {
+        bytes.push(byte)?;
+    }
+    Ok(())
+}
+
+// Adds a type, a key and a signature.
+fn push_head(bytes: &mut Vec<u8>, kind: u8, node: u8, sig: u8) -> Result<(), Fail> {
+    bytes.extend_from_slice(&[0, kind])?;
+    push_all(bytes, node, 32)?;
+    push_all(bytes, sig, 64)
+}
+
+fn push_names(bytes: &mut Vec<u8>, rids: &[u8]) -> Result<(), Fail> {
+    for rid in rids {
+        push_all(bytes, *rid, 20)?;
+    }
+    Ok(())
+}
+
+fn push_remotes(bytes: &mut Vec<u8>, remotes: &[(u8, u8)]) -> Result<(), Fail> {
+    for (node, commit) in remotes {
+        push_all(bytes, *node, 32)?;
+        push_all(bytes, *commit, 20)?;
+    }
+    Ok(())
+}
+
+// A count in two bytes.
+fn count_of(count: usize) -> [u8; 2] {
+    u16::try_from(count).unwrap_or(u16::MAX).to_be_bytes()
+}
+
+// The bytes of an announcement.
+fn bytes_of(alloc: Global, said: &Said) -> Result<Vec<u8>, Fail> {
     let mut bytes = Vec::new(alloc);
-    for (digits, times) in runs {
-        let run = hex::decode(alloc, *digits)?;
-        for _ in 0..*times {
-            bytes.extend_from_slice(&run)?;
+    match *said {
+        Said::Node(node, sig, features, time, rest) => {
+            push_head(&mut bytes, 2, node, sig)?;
+            bytes.extend_from_slice(&features.to_be_bytes())?;
+            bytes.extend_from_slice(&time.to_be_bytes())?;
+            bytes.extend_from_slice(&hex::decode(alloc, rest)?)?;
+        }
+        Said::Inventory(node, sig, rids, time) => {
+            push_head(&mut bytes, 4, node, sig)?;
+            bytes.extend_from_slice(&count_of(rids.len()))?;
+            push_names(&mut bytes, rids)?;
+            bytes.extend_from_slice(&time.to_be_bytes())?;
+        }
+        Said::Refs(node, sig, rid, remotes, time) => {
+            push_head(&mut bytes, 6, node, sig)?;
+            push_all(&mut bytes, rid, 20)?;
+            bytes.extend_from_slice(&count_of(remotes.len()))?;
+            push_remotes(&mut bytes, remotes)?;
+            bytes.extend_from_slice(&time.to_be_bytes())?;
         }
     }
     Ok(bytes)
@@ -111,7 +162,7 @@ fn announcement(alloc: Global, bytes: &[u8]) -> Result<Option<Message>, Fail>
 // The keyring that accepts what a case says.
 fn keyring_of(alloc: Global, case: &Case) -> Result<Keyring, Fail> {
     let mut text = Vec::new(alloc);
-    for (key, digest, sig) in case.accepts {
+    for ((key, sig), digest) in case.keys.iter().zip(case.digests) {
         text.extend_from_slice(b"accept ")?;
         text.extend_from_slice(hex::encode(alloc, [*key; 32])?.as_bytes())?;
         text.push(b' ')?;
@@ -127,8 +178,11 @@ fn keyring_of(alloc: Global, case: &Case) -> Result<Keyring, Fail> {
 fn table_of(alloc: Global, case: &Case) -> Result<Table, Fail> {
     let keyring = keyring_of(alloc, case)?;
     let mut table = Table::new(alloc);
-    for (now, runs) in case.heard {
-        let bytes = bytes_of(alloc, runs)?;
+    for (now, number) in case.heard {
+        let bytes = match case.messages.get(*number) {
+            Some(said) => bytes_of(alloc, said)?,
+            None => Vec::new(alloc),
+        };
         if let Some(message) = announcement(alloc, &bytes)? {
             let _heard = table.hear(alloc, &message, *now, &keyring)?;
         }
@@ -197,8 +251,11 @@ fn are_cases(alloc: Global, cases: &[Case]) -> Result<bool, Fail> {
 #[test]
 fn repositories_are_planned_at_their_first_link(rt: HostRuntime) -> Result<(), Fail> {
     let alloc = rt.alloc();
-    assert!(rt; are_cases(alloc, plan_rows::first())?);
-    assert!(rt; are_cases(alloc, plan_rows::second())?);
-    assert!(rt; are_cases(alloc, plan_rows::third())?);
+    for cases in plan_rows::all() {
+        assert!(rt; are_cases(alloc, cases)?);
+    }
+    for cases in more_plan_rows::all() {
+        assert!(rt; are_cases(alloc, cases)?);
+    }
     Ok(())
 }
