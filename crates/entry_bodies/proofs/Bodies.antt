@@ -11,7 +11,11 @@ use Rattle.rad_base.proofs.OneFront.{one_oid}
 use Rattle.commit_graph.specs.Objects.{Object}
 use Rattle.rad_base.specs.RemoteTexts.{AreRemotes, IsPair, pair_text}
 use Rattle.repo_entries.specs.Batches.{AreContents, IsBatch, content_size}
-use Rattle.repo_entries.specs.Items.{Item, claim, put, install, missed, refused}
+use Rattle.gossip_wire.specs.Messages.{message_text}
+use Rattle.gossip_wire.specs.declared.message.Message.{Message}
+use Rattle.gossip_wire.proofs.OneMessage.{one_message}
+use Rattle.announcements.specs.Announcements.{IsAnnouncement}
+use Rattle.repo_entries.specs.Items.{Item, claim, put, install, heard, missed, refused}
 use Rattle.entry_bodies.specs.Bodies.{FitsInstall, FitsPut, SpellsItem, held_text, install_size, install_text, put_size, put_text}
 use Rattle.entry_bodies.specs.Lists.{SpellObjects}
 use Rattle.entry_bodies.specs.Readers.{SaysNone}
@@ -55,6 +59,7 @@ no_put rid rest more count is small h none (put r objects caller) s =
     let are = put_counted rid rest more count r objects is small h s.is.0 s.text in
     none objects (omega (arith, are.count, s.is.0.some)) (omega (arith, are.count, s.is.0.few)) are
 no_put rid rest more count is small h none (install r i remotes caller) s = absurd (omega (arith, ap (λ (l : List ℕ). get_or l 0 0) s.text))
+no_put rid rest more count is small h none (heard m caller) s = absurd (omega (arith, ap (λ (l : List ℕ). get_or l 0 0) s.text))
 no_put rid rest more count is small h none (missed r left caller) s = s.is
 no_put rid rest more count is small h none (refused r why caller) s = s.is
 
@@ -65,8 +70,18 @@ no_install rid id rest more count is is_id small h none (put r objects caller) s
 no_install rid id rest more count is is_id small h none (install r i remotes caller) s =
     let are = install_counted rid id rest more count r i remotes is is_id small h s.is.0 s.text in
     none remotes (omega (arith, are.count, s.is.0.few)) are
+no_install rid id rest more count is is_id small h none (heard m caller) s = absurd (omega (arith, ap (λ (l : List ℕ). get_or l 0 0) s.text))
 no_install rid id rest more count is is_id small h none (missed r left caller) s = s.is
 no_install rid id rest more count is is_id small h none (refused r why caller) s = s.is
+
+-- no announcement, where the bytes are none of those that are
+pub no_heard : (rest : List ℕ) → ((message : Message) → IsAnnouncement message → rest ≡ message_text message → ⊥) → SaysNone 3 rest
+no_heard rest none (claim r caller) s = s.is
+no_heard rest none (put r objects caller) s = absurd (omega (arith, ap (λ (l : List ℕ). get_or l 0 0) s.text))
+no_heard rest none (install r i remotes caller) s = absurd (omega (arith, ap (λ (l : List ℕ). get_or l 0 0) s.text))
+no_heard rest none (heard message caller) s = none message s.is.0 (ap (λ (l : List ℕ). drop 1 l) s.text)
+no_heard rest none (missed r left caller) s = s.is
+no_heard rest none (refused r why caller) s = s.is
 
 -- ---- one entry
 
@@ -101,6 +116,7 @@ one_item bytes (claim r m) b h k = absurd h.is
 one_item bytes (missed r l m) b h k = absurd h.is
 one_item bytes (refused r w m) b h k = absurd h.is
 one_item bytes (put r xs m) (claim s n) h k = absurd k.is
+one_item bytes (put r xs m) (heard y n) h k = absurd (omega (arith, ap (λ (l : List ℕ). get_or l 0 0) (sym h.text ∙ k.text)))
 one_item bytes (put r xs m) (missed s l n) h k = absurd k.is
 one_item bytes (put r xs m) (refused s w n) h k = absurd k.is
 one_item bytes (put r xs m) (install s j ys n) h k = absurd (omega (arith, ap (λ (l : List ℕ). get_or l 0 0) (sym h.text ∙ k.text)))
@@ -109,6 +125,7 @@ one_item bytes (put r xs m) (put s ys n) h k =
     let callers : m ≡ n = h.is.1 ∙ sym k.is.1 in
     (λ i. put (one.0 i) (one.1 i) (callers i))
 one_item bytes (install r i xs m) (claim s n) h k = absurd k.is
+one_item bytes (install r i xs m) (heard y n) h k = absurd (omega (arith, ap (λ (l : List ℕ). get_or l 0 0) (sym h.text ∙ k.text)))
 one_item bytes (install r i xs m) (missed s l n) h k = absurd k.is
 one_item bytes (install r i xs m) (refused s w n) h k = absurd k.is
 one_item bytes (install r i xs m) (put s ys n) h k = absurd (omega (arith, ap (λ (l : List ℕ). get_or l 0 0) (sym h.text ∙ k.text)))
@@ -116,6 +133,16 @@ one_item bytes (install r i xs m) (install s j ys n) h k =
     let one = one_install r s i j xs ys h.is.0 k.is.0 (sym h.text ∙ k.text) in
     let callers : m ≡ n = h.is.1 ∙ sym k.is.1 in
     (λ t. install (one.rid t) (one.id t) (one.remotes t) (callers t))
+one_item bytes (heard x m) (claim s n) h k = absurd k.is
+one_item bytes (heard x m) (missed s l n) h k = absurd k.is
+one_item bytes (heard x m) (refused s w n) h k = absurd k.is
+one_item bytes (heard x m) (put s ys n) h k = absurd (omega (arith, ap (λ (l : List ℕ). get_or l 0 0) (sym h.text ∙ k.text)))
+one_item bytes (heard x m) (install s j ys n) h k = absurd (omega (arith, ap (λ (l : List ℕ). get_or l 0 0) (sym h.text ∙ k.text)))
+one_item bytes (heard x m) (heard y n) h k =
+    let one : x ≡ y =
+    one_message (message_text x) x y (record { fits = h.is.0.fits; text = refl }) (record { fits = k.is.0.fits; text = ap (λ (l : List ℕ). drop 1 l) (sym h.text ∙ k.text) }) in
+    let callers : m ≡ n = h.is.1 ∙ sym k.is.1 in
+    (λ t. heard (one t) (callers t))
 
 -- ---- sizes
 
@@ -126,7 +153,7 @@ held_size (x ∷ xs) =
     let sum : content_size (x ∷ xs) ≡ length x.1 + content_size xs = sum_by-cons (λ (o : Object). length o.1) x xs in
     omega (arith, rest, sum, length-append x.1 (flat_map held_text xs))
 
-pair_size : (remotes : List (Nid × Oid)) → AllByRecursion IsPair remotes → length (flat_map pair_text remotes) ≡ 52 * length remotes
+pub pair_size : (remotes : List (Nid × Oid)) → AllByRecursion IsPair remotes → length (flat_map pair_text remotes) ≡ 52 * length remotes
 pair_size [] h = refl
 pair_size (x ∷ xs) h =
     let rest = pair_size xs h.1 in

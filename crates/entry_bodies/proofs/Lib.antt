@@ -1,3 +1,4 @@
 pub mod Bodies
 pub mod Contents
+pub mod HeardSizes
 pub mod ReadSoFar

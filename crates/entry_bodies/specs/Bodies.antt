@@ -1,4 +1,4 @@
--- The bodies of entries that a journal keeps: the objects of a put, or what an install names.
+-- The bodies of entries that a journal keeps: the objects of a put, what an install names, or an announcement.
 use Rattle.std.specs.Prelude.{◌≡◌, ℕ, ◌+◌, ◌*◌, ◌≤◌, List, [], ◌∷◌, ◌++◌, length}
 use Rattle.std.specs.List.{AllByRecursion, flat_map}
 use Rattle.std.specs.Int.{to_be_bytes, w16, w32}
@@ -8,10 +8,13 @@ use Rattle.rad_base.specs.declared.names.Rid.{Rid}
 use Rattle.rad_base.specs.Order.{IsRising}
 use Rattle.rad_base.specs.Sizes.{IsOid}
 use Rattle.commit_graph.specs.Objects.{Object}
+use Rattle.announcements.specs.Announcements.{IsAnnouncement}
+use Rattle.gossip_wire.specs.Messages.{message_text}
+use Rattle.gossip_wire.specs.declared.message.Message.{Message}
 use Rattle.fetch_wire.specs.Sections.{kind_byte}
 use Rattle.rad_base.specs.RemoteTexts.{IsPair, pair_text}
 use Rattle.repo_entries.specs.Batches.{AreContents, content_size}
-use Rattle.repo_entries.specs.Items.{Item, claim, put, install, missed, refused}
+use Rattle.repo_entries.specs.Items.{Item, claim, put, install, heard, missed, refused}
 use Rattle.entry_bodies.specs.declared.body.Body.{Body}
 use Rattle.entry_bodies.specs.declared.body.Body.TheVariants as bodies
 
@@ -28,6 +31,10 @@ abbrev pub install_text : Rid → Oid → List (Nid × Oid) → List ℕ
 install_text rid id remotes =
     2 ∷ (rid.0.0 ++ (id.0 ++ (to_be_bytes w16 (length remotes) ++ flat_map pair_text remotes)))
 
+-- an announcement: the byte 3, and its own bytes
+abbrev pub heard_text : Message → List ℕ
+heard_text message = 3 ∷ message_text message
+
 -- how many bytes they have
 abbrev pub put_size : List Object → ℕ
 put_size objects = 25 + (5 * length objects + content_size objects)
@@ -35,11 +42,15 @@ put_size objects = 25 + (5 * length objects + content_size objects)
 abbrev pub install_size : List (Nid × Oid) → ℕ
 install_size remotes = 43 + 52 * length remotes
 
+abbrev pub heard_size : Message → ℕ
+heard_size message = 1 + length (message_text message)
+
 -- the body of an entry; those of the other entries are never written
 abbrev pub body_of : Item → List ℕ
 body_of (claim rid caller) = []
 body_of (put rid objects caller) = put_text rid objects
 body_of (install rid id remotes caller) = install_text rid id remotes
+body_of (heard message caller) = heard_text message
 body_of (missed of left caller) = []
 body_of (refused rid why caller) = []
 
@@ -63,6 +74,7 @@ abbrev pub HasBody : Item → Type 0
 HasBody (claim rid caller) = ⊥
 HasBody (put rid objects caller) = FitsPut rid objects × (caller ≡ 0)
 HasBody (install rid id remotes caller) = FitsInstall rid id remotes × (caller ≡ 0)
+HasBody (heard message caller) = IsAnnouncement message × (caller ≡ 0)
 HasBody (missed of left caller) = ⊥
 HasBody (refused rid why caller) = ⊥
 
@@ -75,3 +87,4 @@ pub record SpellsItem (item : Item) (bytes : List ℕ) : Type 0 where
 abbrev pub item_in : Body → Item
 item_in (bodies.Put rid batch) = put rid batch 0
 item_in (bodies.Install rid offer) = install rid offer.id offer.remotes 0
+item_in (bodies.Heard message) = heard message 0

@@ -1,4 +1,5 @@
 // What a body says.
+use gossip_wire::Message;
 use rad_base::{Offer, Rid};
 use repo_entries::Batch;
 
@@ -9,4 +10,6 @@ pub enum Body {
     Put(Rid, Batch),
     /// An identity and the remotes that advance are installed in this repository.
     Install(Rid, Offer),
+    /// This announcement was heard.
+    Heard(Message),
 }

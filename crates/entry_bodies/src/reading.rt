@@ -6,6 +6,8 @@ ghost use Rattle.entry_bodies.specs.Readers.{Says, SaysNone};
 
 use crate::Body;
 use crate::lists::objects_in;
+use announcements::is_announcement;
+use gossip_wire::{MessageFault, read_message};
 use rad_base::{NoMemory, Offer, Rid, four_bytes_front, oid_front, remotes_in, two_bytes_front};
 use std::alloc::Global;
 
@@ -58,6 +60,19 @@ fn read_install(alloc: Global, bytes: &[u8]) -> Result<Option<Body>, NoMemory>
     }
 }
 
+// The announcement that these bytes say, behind their first.
+fn read_heard(alloc: Global, bytes: &[u8]) -> Result<Option<Body>, NoMemory>
+    ensures found { IfOk result (λ found. IfSome found (Says 3 bytes.now)) }
+    ensures none { IfOk result (λ found. IfNone found (SaysNone 3 bytes.now)) }
+{
+    match read_message(alloc, bytes) {
+        Ok(message) if is_announcement(&message) => Ok(Some(Body::Heard(message))),
+        Ok(_) => Ok(None),
+        Err(MessageFault::BadBody) => Ok(None),
+        Err(MessageFault::NoMemory) => Err(NoMemory),
+    }
+}
+
 /// What the bytes say as the body of an entry. None where they are no body. `NoMemory`: memory for
 /// it was refused.
 pub fn read_body(alloc: Global, bytes: &[u8]) -> Result<Option<Body>, NoMemory>
@@ -69,6 +84,7 @@ pub fn read_body(alloc: Global, bytes: &[u8]) -> Result<Option<Body>, NoMemory>
     match bytes.split_first() {
         Some((1, rest)) => read_put(alloc, rest),
         Some((2, rest)) => read_install(alloc, rest),
+        Some((3, rest)) => read_heard(alloc, rest),
         _ => Ok(None),
     }
 }

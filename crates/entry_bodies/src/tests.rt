@@ -22,6 +22,9 @@ const INSTALL: &[u8] = b"\
     b359e19cb64518da19eb3c\
 ";
 
+// What a node says of itself behind 96 bytes 21: a feature, the time 7, an alias and an address.
+const ABOUT: &[u8] = b"0000000000000001000000000000000705616c6961730103613a31";
+
 const RID: [u8; 20] = [
     253, 56, 102, 90, 113, 107, 198, 226, 30, 137, 133, 124, 225, 206, 249, 38, 143, 3, 158, 188,
 ];
@@ -32,6 +35,7 @@ fn count(alloc: Global, bytes: &[u8]) -> Result<usize, Fail> {
         None => Ok(0),
         Some(Body::Put(_, batch)) => Ok(100 + batch.len()),
         Some(Body::Install(_, offer)) => Ok(200 + offer.remotes.as_slice().len()),
+        Some(Body::Heard(_)) => Ok(300),
     }
 }
 
@@ -100,5 +104,38 @@ fn bodies_are_written(rt: HostRuntime) -> Result<(), Fail> {
     ]);
     let install = install_body(alloc, &Rid(Oid(RID)), &id, &remotes)?;
     assert_eq!(rt; install.as_slice(), hex::decode(alloc, INSTALL)?.as_slice());
+    Ok(())
+}
+
+// The body of what a node says of itself.
+fn about(alloc: Global) -> Result<Vec<u8>, Fail> {
+    let mut bytes = Vec::new(alloc);
+    bytes.extend_from_slice(&[3, 0, 2])?;
+    bytes.extend_from_slice(&[0x21; 96])?;
+    bytes.extend_from_slice(&hex::decode(alloc, ABOUT)?)?;
+    Ok(bytes)
+}
+
+// The body of what bytes announce, written again; empty where they announce nothing.
+fn again(alloc: Global, bytes: &[u8]) -> Result<Bytes, Fail> {
+    match read_body(alloc, bytes)? {
+        Some(Body::Heard(message)) => Ok(heard_body(alloc, &message)?),
+        _ => Ok(Bytes::copy_of(alloc, b"")?),
+    }
+}
+
+#[test]
+fn announcements_are_read_and_written(rt: HostRuntime) -> Result<(), Fail> {
+    let alloc = rt.alloc();
+    let mut bytes = about(alloc)?;
+    assert_eq!(rt; again(alloc, &bytes)?.as_slice(), bytes.as_slice());
+    for size in 0..bytes.len() {
+        assert_eq!(rt; count(alloc, &bytes[..size])?, 0, "{size} bytes");
+    }
+    bytes.push(0)?;
+    assert_eq!(rt; count(alloc, &bytes)?, 0);
+    // A ping, and its answer.
+    assert_eq!(rt; count(alloc, &[3, 0, 10, 0, 0, 0, 0])?, 0);
+    assert_eq!(rt; count(alloc, &[3, 0, 12, 0, 0])?, 0);
     Ok(())
 }

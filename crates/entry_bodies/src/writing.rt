@@ -4,10 +4,13 @@ ghost use Rattle.std.specs.List.{flat_map};
 ghost use Rattle.repo_entries.specs.Batches.{AreContents, IsBatch};
 ghost use Rattle.fetch_wire.specs.Sections.{kind_byte};
 ghost use Rattle.rad_base.specs.RemoteTexts.{pair_text};
-ghost use Rattle.entry_bodies.specs.Bodies.{held_text, install_size, install_text, put_size};
-ghost use Rattle.entry_bodies.specs.Bodies.{put_text};
+ghost use Rattle.gossip_wire.specs.Messages.{IsMessage};
+ghost use Rattle.announcements.specs.Announcements.{IsAnnouncement};
+ghost use Rattle.entry_bodies.specs.Bodies.{heard_text, held_text, install_size, install_text};
+ghost use Rattle.entry_bodies.specs.Bodies.{put_size, put_text};
 
 use git_object::Kind;
+use gossip_wire::{Message, write_message};
 use rad_base::{Bytes, Nid, NoMemory, Oid, Remotes, Rid};
 use repo_entries::Batch;
 use std::alloc::Global;
@@ -126,6 +129,18 @@ fn install_bytes(
     Ok(body)
 }
 
+// The bytes of an announcement.
+fn heard_bytes(alloc: Global, message: &Message) -> Result<Vec<u8>, NoMemory>
+    requires { IsMessage message.now }
+    ensures { IfOk result (λ body. body.items ≡ heard_text message.now) }
+{
+    let bytes = write_message(alloc, message)?;
+    let mut body = Vec::new(alloc);
+    body.push(3)?;
+    body.extend_from_slice(&bytes)?;
+    Ok(body)
+}
+
 /// The body of a put of these objects, which fits a record of a journal. `NoMemory`: memory for it
 /// was refused.
 pub fn put_body(alloc: Global, rid: &Rid, batch: &Batch) -> Result<Bytes, NoMemory>
@@ -135,6 +150,17 @@ pub fn put_body(alloc: Global, rid: &Rid, batch: &Batch) -> Result<Bytes, NoMemo
     ensures fits { IfOk result (λ body. length body ≤ 34000000) }
 {
     let body = put_bytes(alloc, rid, batch)?;
+    Ok(Bytes::of(body))
+}
+
+/// The body of an announcement, which fits a record of a journal. `NoMemory`: memory for it was
+/// refused.
+pub fn heard_body(alloc: Global, message: &Message) -> Result<Bytes, NoMemory>
+    requires { IsAnnouncement message.now }
+    ensures text { IfOk result (λ body. body ≡ heard_text message.now) }
+    ensures fits { IfOk result (λ body. length body ≤ 34000000) }
+{
+    let body = heard_bytes(alloc, message)?;
     Ok(Bytes::of(body))
 }
 

@@ -4,7 +4,7 @@ use Rattle.std.specs.List.{flat_map}
 use Rattle.hex.specs.Hex.{IsBytes}
 use Rattle.rad_base.specs.declared.names.Rid.{Rid}
 use Rattle.rad_base.specs.declared.offer.Offer.{Offer}
-use Rattle.repo_entries.specs.Items.{Item, claim, install, missed, put, refused}
+use Rattle.repo_entries.specs.Items.{Item, claim, heard, install, missed, put, refused}
 use Rattle.repo_entries.specs.declared.whole.Whole.{Whole}
 use Rattle.repo_slice.specs.Keeps.{Constants, Held, IsVerdictOn}
 use Rattle.repo_slice.specs.declared.scope.Scope.{Scope}
@@ -49,6 +49,7 @@ abbrev pub put_in : Item → List Item
 put_in (claim rid caller) = []
 put_in (put rid objects caller) = put rid objects caller ∷ []
 put_in (install rid id remotes caller) = []
+put_in (heard message caller) = []
 put_in (missed of left caller) = []
 put_in (refused rid why caller) = []
 

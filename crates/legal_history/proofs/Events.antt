@@ -4,7 +4,7 @@ use Rattle.std.proofs.lemmas.List.{append-nil}
 use Rattle.rad_base.specs.declared.names.Rid.{Rid}
 use Rattle.rad_base.proofs.Options.{some_is}
 use Rattle.keyring.specs.Contents.{Contents}
-use Rattle.repo_entries.specs.Items.{Item, claim, install, left_of, missed, put, refused}
+use Rattle.repo_entries.specs.Items.{Item, claim, heard, install, left_of, missed, put, refused}
 use Rattle.repo_entries.specs.declared.entry.Left.{Left}
 use Rattle.repo_entries.specs.declared.entry.Left.TheVariants as lefts
 use Rattle.legal_history.specs.Cores.{Core, Event, MayReopenAs, Runs, Steps, claims, doubts, enters, grown, mends, misses, noted, noted_by, refuses}
@@ -90,6 +90,7 @@ noted_durable : (left : Left) (of : Option Rid) (caller : ℕ) (item : Item) →
 noted_durable left of caller (claim rid c) d = absurd d
 noted_durable left of caller (put rid batch c) d = refl
 noted_durable left of caller (install rid id remotes c) d = refl
+noted_durable left of caller (heard message c) d = refl
 noted_durable left of caller (missed q l c) d = absurd d
 noted_durable left of caller (refused rid why c) d = absurd d
 

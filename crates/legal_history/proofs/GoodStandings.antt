@@ -21,7 +21,7 @@ use Rattle.commit_graph.specs.Objects.{Grows, Object, ObjectMap}
 use Rattle.commit_graph.specs.Pairs.{as_commit}
 use Rattle.commit_graph.proofs.Growing.{closed_grows, history_grows, history_was}
 use Rattle.commit_graph.proofs.HistoryWalks.{history_along}
-use Rattle.repo_entries.specs.Items.{Item, claim, install, missed, put, refused}
+use Rattle.repo_entries.specs.Items.{Item, claim, heard, install, missed, put, refused}
 use Rattle.repo_slice.specs.Good.{Advances, IsGood, IsSound}
 use Rattle.repo_slice.specs.Standing.{Replaces, replaced}
 use Rattle.repo_slice.specs.Verdicts.{Allows, IsIdOutcome, IsNextState}
@@ -112,6 +112,7 @@ item_is_good keyring rid before (install of id remotes caller) h l = by_name (is
     by_name : (b : Bool) → is_same rid of ≡ b → IsGoodStanding keyring rid (if b then after_install id remotes (replay rid before) else replay rid before)
     by_name true e = install_is_good keyring rid (replay rid before) id remotes h l.0.rising (allowed_here keyring before rid of id remotes (same_is rid of e) l.0)
     by_name false e = h
+item_is_good keyring rid before (heard message caller) h l = h
 item_is_good keyring rid before (missed of left caller) h l = h
 item_is_good keyring rid before (refused of why caller) h l = h
 
@@ -222,6 +223,7 @@ commits-append rid node (install of id remotes caller ∷ items) those = by_name
         ≡ (if b then with_commit (commit_of remotes node) (commits_of rid node items) else commits_of rid node items) ++ commits_of rid node those
     by_name later true = with_more later (commit_of remotes node)
     by_name later false = later
+commits-append rid node (heard message caller ∷ items) those = commits-append rid node items those
 commits-append rid node (missed of left caller ∷ items) those = commits-append rid node items those
 commits-append rid node (refused of why caller ∷ items) those = commits-append rid node items those
 
@@ -292,6 +294,7 @@ item_traced keyring rid node before (install of id remotes caller) h l t = by_na
     by_name true e = traced_install keyring rid node (replay rid before) id remotes (commits_of rid node before) h l.0.rising
         (allowed_here keyring before rid of id remotes (same_is rid of e) l.0) t
     by_name false e = rw (append-nil (commits_of rid node before)) t
+item_traced keyring rid node before (heard message caller) h l t = rw (append-nil (commits_of rid node before)) t
 item_traced keyring rid node before (missed of left caller) h l t = rw (append-nil (commits_of rid node before)) t
 item_traced keyring rid node before (refused of why caller) h l t = rw (append-nil (commits_of rid node before)) t
 

@@ -13,7 +13,7 @@ use Rattle.keyring.specs.Contents.{Contents}
 use Rattle.commit_graph.specs.InMemory.{objects_in}
 use Rattle.commit_graph.specs.Objects.{Object, ObjectMap}
 use Rattle.repo_entries.specs.Batches.{AreContents}
-use Rattle.repo_entries.specs.Items.{Item, claim, install, missed, put, refused}
+use Rattle.repo_entries.specs.Items.{Item, claim, heard, install, missed, put, refused}
 use Rattle.legal_history.specs.Histories.{Lawful, Legal, LegalFrom}
 use Rattle.legal_history.specs.Replays.{AreShort, Standing, after_install, after_item, after_put, is_same, replay, with_objects}
 use Rattle.legal_history.proofs.GoodStandings.{replay_more}
@@ -49,6 +49,7 @@ item_short keyring rid before (install of id remotes caller) h l = by_name (is_s
     by_name : (b : Bool) → AreShort (if b then after_install id remotes (replay rid before) else replay rid before).objects
     by_name true = h
     by_name false = h
+item_short keyring rid before (heard message caller) h l = h
 item_short keyring rid before (missed of left caller) h l = h
 item_short keyring rid before (refused of why caller) h l = h
 

@@ -5,7 +5,7 @@ use Rattle.rad_base.specs.declared.names.Oid.{Oid}
 use Rattle.rad_base.specs.declared.names.Rid.{Rid}
 use Rattle.rad_base.specs.Order.{commit_of}
 use Rattle.commit_graph.specs.Objects.{ObjectMap}
-use Rattle.repo_entries.specs.Items.{Item, claim, put, install, missed, refused}
+use Rattle.repo_entries.specs.Items.{Item, claim, put, install, heard, missed, refused}
 use Rattle.repo_slice.specs.Good.{Advances}
 use Rattle.legal_history.specs.Replays.{is_same}
 
@@ -21,6 +21,7 @@ commits_of rid node (claim of caller ∷ items) = commits_of rid node items
 commits_of rid node (put of batch caller ∷ items) = commits_of rid node items
 commits_of rid node (install of id remotes caller ∷ items) =
     if is_same rid of then with_commit (commit_of remotes node) (commits_of rid node items) else commits_of rid node items
+commits_of rid node (heard message caller ∷ items) = commits_of rid node items
 commits_of rid node (missed of left caller ∷ items) = commits_of rid node items
 commits_of rid node (refused of why caller ∷ items) = commits_of rid node items
 

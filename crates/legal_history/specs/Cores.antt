@@ -2,7 +2,7 @@
 use Rattle.std.specs.Prelude.{◌≡◌, ◌⊎◌, ℕ, List, [], ◌∷◌, ◌++◌, Option, None, Some}
 use Rattle.rad_base.specs.declared.names.Rid.{Rid}
 use Rattle.keyring.specs.Contents.{Contents}
-use Rattle.repo_entries.specs.Items.{Item, claim, put, install, missed, refused, left_of}
+use Rattle.repo_entries.specs.Items.{Item, claim, put, install, heard, missed, refused, left_of}
 use Rattle.repo_entries.specs.declared.entry.Left.{Left}
 use Rattle.repo_entries.specs.declared.entry.Left.TheVariants as lefts
 use Rattle.repo_entries.specs.declared.whole.Whole.{Whole}
@@ -54,6 +54,7 @@ abbrev pub noted : Left → Item → Left
 noted left (claim rid caller) = left
 noted left (put rid batch caller) = lefts.Nothing
 noted left (install rid id remotes caller) = lefts.Nothing
+noted left (heard message caller) = lefts.Nothing
 noted left (missed of lefts.Nothing caller) = left
 noted left (missed of (lefts.Put names) caller) = lefts.Put names
 noted left (missed of (lefts.Install offer) caller) = lefts.Install offer

@@ -1,4 +1,4 @@
--- What a history makes of each repository.
+-- What a history makes of each repository, and what it heard.
 use Rattle.std.specs.Prelude.{◌≡◌, ◌≤◌, ℕ, length, Bool, if◌then◌else◌, List, [], ◌∷◌, Option, None, Some}
 use Rattle.std.specs.Option.{option_or}
 use Rattle.std.specs.Ordering.{is_eq}
@@ -8,7 +8,8 @@ use Rattle.rad_base.specs.declared.names.Oid.{Oid}
 use Rattle.rad_base.specs.declared.names.Rid.{Rid}
 use Rattle.commit_graph.specs.InMemory.{objects_in}
 use Rattle.commit_graph.specs.Objects.{Object, ObjectMap}
-use Rattle.repo_entries.specs.Items.{Item, claim, put, install, missed, refused}
+use Rattle.gossip_wire.specs.declared.message.Message.{Message}
+use Rattle.repo_entries.specs.Items.{Item, claim, put, install, heard, missed, refused}
 use Rattle.repo_slice.specs.Standing.{replaced}
 use Rattle.repo_slice.specs.declared.state.State.{State}
 
@@ -43,6 +44,7 @@ abbrev pub after_item : Rid → Standing → Item → Standing
 after_item rid s (claim of caller) = s
 after_item rid s (put of batch caller) = if is_same rid of then after_put batch s else s
 after_item rid s (install of id remotes caller) = if is_same rid of then after_install id remotes s else s
+after_item rid s (heard message caller) = s
 after_item rid s (missed of left caller) = s
 after_item rid s (refused of why caller) = s
 
@@ -73,5 +75,16 @@ claimant rid [] = 0
 claimant rid (claim of caller ∷ items) = if is_same rid of then caller else claimant rid items
 claimant rid (put of batch caller ∷ items) = claimant rid items
 claimant rid (install of id remotes caller ∷ items) = claimant rid items
+claimant rid (heard message caller ∷ items) = claimant rid items
 claimant rid (missed of left caller ∷ items) = claimant rid items
 claimant rid (refused of why caller ∷ items) = claimant rid items
+
+-- the announcements that were heard, in order
+abbrev pub messages_in : List Item → List Message
+messages_in [] = []
+messages_in (claim rid caller ∷ items) = messages_in items
+messages_in (put rid batch caller ∷ items) = messages_in items
+messages_in (install rid id remotes caller ∷ items) = messages_in items
+messages_in (heard message caller ∷ items) = message ∷ messages_in items
+messages_in (missed of left caller ∷ items) = messages_in items
+messages_in (refused rid why caller ∷ items) = messages_in items

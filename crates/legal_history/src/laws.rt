@@ -5,18 +5,19 @@ ghost use Rattle.rad_base.specs.declared.names.Rid.{Rid};
 ghost use Rattle.keyring.specs.Contents.{Contents};
 ghost use Rattle.repo_entries.specs.Items.{Item};
 ghost use Rattle.repo_slice.specs.Good.{IsGood};
-ghost use Rattle.legal_history.specs.Replays.{AreShort, replay, replayed_state};
+ghost use Rattle.legal_history.specs.Replays.{AreShort, messages_in, replay, replayed_state};
 ghost use Rattle.legal_history.specs.Durable.{durable_part};
 ghost use Rattle.legal_history.specs.Histories.{Legal};
 ghost use Rattle.legal_history.specs.Laws.{DoubtIsNamed, EventsKeepLegal, StopsLeaveLegal};
 ghost use Rattle.legal_history.specs.Advancing.{AdvanceAll, commits_of};
 
-/// The durable part of a legal history is legal, and has the same replay.
+/// The durable part of a legal history is legal, has the same replay, and heard the same.
 pub fn durable_parts_are_legal()
     ensures legal { (keyring : Contents) (items : List Item) → Legal keyring items
         → Legal keyring (durable_part items) }
     ensures replays { (rid : Rid) (items : List Item)
         → replay rid (durable_part items) ≡ replay rid items }
+    ensures heard { (items : List Item) → messages_in (durable_part items) ≡ messages_in items }
 {}
 
 /// What a legal history makes of a repository is good.

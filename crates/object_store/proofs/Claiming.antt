@@ -4,10 +4,11 @@ use Rattle.std.specs.BTreeMap.{BTreeMap, get}
 use Rattle.std.specs.List.{AllByRecursion}
 use Rattle.rad_base.specs.Order.{rid_cmp}
 use Rattle.rad_base.specs.declared.names.Rid.{Rid}
+use Rattle.announcements.specs.Held.{kept_in}
 use Rattle.keyring.specs.Contents.{Contents}
 use Rattle.ref_journal.specs.Holds.{Holds}
 use Rattle.ref_journal.specs.declared.journal.Journal.{Journal}
-use Rattle.repo_entries.specs.Items.{Item, claim, install, missed, put, refused}
+use Rattle.repo_entries.specs.Items.{Item, claim, heard, install, missed, put, refused}
 use Rattle.repo_entries.specs.declared.entry.Entry.TheVariants.{Claim}
 use Rattle.repo_slice.specs.Slices.{HasNothingStaged, objects_of, state_of}
 use Rattle.legal_history.specs.Cores.{Core, claims}
@@ -25,12 +26,14 @@ use Rattle.object_store.specs.declared.store.Store.{Store}
 use Rattle.object_store.proofs.Keys.{is_itself, replay_claim, same_or_other}
 use Rattle.object_store.proofs.Moving.{stands_more, still}
 use Rattle.object_store.proofs.Standing.{claimant_told, each_grown}
+use Rattle.object_store.proofs.Tables.{table_more}
 
 -- a claim has a caller
 abbrev pub IsRealClaim : Item → Type 0
 IsRealClaim (claim rid caller) = 1 ≤ caller
 IsRealClaim (put rid batch caller) = Unit {0}
 IsRealClaim (install rid id remotes caller) = Unit {0}
+IsRealClaim (heard message caller) = Unit {0}
 IsRealClaim (missed of left caller) = Unit {0}
 IsRealClaim (refused rid why caller) = Unit {0}
 
@@ -40,6 +43,7 @@ real_claims keyring before [] l = tt
 real_claims keyring before (claim rid caller ∷ items) l = (l.0.0, real_claims keyring (before ++ claim rid caller ∷ []) items l.1)
 real_claims keyring before (put rid batch caller ∷ items) l = (tt, real_claims keyring (before ++ put rid batch caller ∷ []) items l.1)
 real_claims keyring before (install rid id remotes caller ∷ items) l = (tt, real_claims keyring (before ++ install rid id remotes caller ∷ []) items l.1)
+real_claims keyring before (heard message caller ∷ items) l = (tt, real_claims keyring (before ++ heard message caller ∷ []) items l.1)
 real_claims keyring before (missed of left caller ∷ items) l = (tt, real_claims keyring (before ++ missed of left caller ∷ []) items l.1)
 real_claims keyring before (refused rid why caller ∷ items) l = (tt, real_claims keyring (before ++ refused rid why caller ∷ []) items l.1)
 
@@ -55,6 +59,7 @@ claimant_now rid (claim q c ∷ items) caller real e =
     first_claim (is_same rid q) c (claimant rid items) caller (claimant rid (items ++ claim rid caller ∷ [])) (λ f. claimant_now rid items caller real.1 f) real.0 e
 claimant_now rid (put q b c ∷ items) caller real e = claimant_now rid items caller real.1 e
 claimant_now rid (install q i r c ∷ items) caller real e = claimant_now rid items caller real.1 e
+claimant_now rid (heard m c ∷ items) caller real e = claimant_now rid items caller real.1 e
 claimant_now rid (missed q l c ∷ items) caller real e = claimant_now rid items caller real.1 e
 claimant_now rid (refused q w c ∷ items) caller real e = claimant_now rid items caller real.1 e
 
@@ -64,6 +69,7 @@ claimant_other rid of [] caller other = ap (λ (b : Bool). if b then caller else
 claimant_other rid of (claim q c ∷ items) caller other = ap (λ (n : ℕ). if is_same rid q then c else n) (claimant_other rid of items caller other)
 claimant_other rid of (put q b c ∷ items) caller other = claimant_other rid of items caller other
 claimant_other rid of (install q i r c ∷ items) caller other = claimant_other rid of items caller other
+claimant_other rid of (heard m c ∷ items) caller other = claimant_other rid of items caller other
 claimant_other rid of (missed q l c ∷ items) caller other = claimant_other rid of items caller other
 claimant_other rid of (refused q w c ∷ items) caller other = claimant_other rid of items caller other
 
@@ -87,10 +93,10 @@ stands_claimed (Some a) None rid items caller real none c h = absurd c
 
 -- a claim that is Ok
 pub claim_ok : {D : Type 0} (reads : D → Option (List ℕ)) (images : D → List ℕ → Type 0) (moment : D → ℕ) (since : D → ℕ → List ℕ → Type 0) (now : (disk : D) (image : List ℕ) → since disk (moment disk) image → images disk image) (old new : Store D) (core : Core) (rid : Rid) (caller : ℕ) → 1 ≤ caller → StandsFor old core.items
-    → new.keyring ≡ old.keyring → new.journal ≡ old.journal → new.history.entries.items ≡ old.history.entries.items ++ Claim rid caller ∷ []
+    → new.keyring ≡ old.keyring → new.table ≡ old.table → new.journal ≡ old.journal → new.history.entries.items ≡ old.history.entries.items ++ Claim rid caller ∷ []
     → ((q : Rid) → (q ≡ rid → ⊥) → get rid_cmp new.repositories q ≡ get rid_cmp old.repositories q) → claimant_at (get rid_cmp old.repositories rid) ≡ 0
     → IsClaimed rid caller (get rid_cmp old.repositories rid) (get rid_cmp new.repositories rid) → Moves reads images moment since old new core (claims rid caller ∷ [])
-claim_ok reads images moment since now old new core rid caller some s k j e others unclaimed claimed =
+claim_ok reads images moment since now old new core rid caller some s k t j e others unclaimed claimed =
     let items = core.items ++ claim rid caller ∷ [] in
     let none : claimant rid core.items ≡ 0 = sym (claimant_told (get rid_cmp old.repositories rid) rid core.items (s.each rid)) ∙ unclaimed in
     let lawful : Lawful old.keyring core.items (claim rid caller) = (some, none) in
@@ -99,7 +105,8 @@ claim_ok reads images moment since now old new core rid caller some s k j e othe
     record {
       next = next;
       runs = (next, (lawful, refl), refl);
-      stands = stands_more old new core.items (claim rid caller) s lawful k e
+      stands = stands_more old new core.items (claim rid caller) s lawful k
+          (table_more (kept_in old.table) (kept_in new.table) core.items (claim rid caller) refl (ap kept_in t) s.table) e
           (each_grown old.repositories new.repositories rid core.items (claim rid caller) s.each others
           (λ q test. (replay_claim q rid core.items caller, claimant_other q rid core.items caller test))
           (stands_claimed (get rid_cmp old.repositories rid) (get rid_cmp new.repositories rid) rid core.items caller real none claimed (s.each rid)));

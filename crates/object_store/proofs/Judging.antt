@@ -13,6 +13,7 @@ use Rattle.rad_base.proofs.Lookups.{among_found, found_among, nodes_differ}
 use Rattle.rad_base.proofs.Members.{map_from, map_has}
 use Rattle.commit_graph.specs.Objects.{ObjectMap}
 use Rattle.commit_graph.proofs.Repeats.{length_within}
+use Rattle.announcements.specs.Held.{kept_in}
 use Rattle.keyring.specs.Contents.{Contents}
 use Rattle.ref_journal.specs.Holds.{Holds}
 use Rattle.ref_journal.specs.declared.journal.Journal.{Journal}
@@ -50,6 +51,7 @@ use Rattle.object_store.proofs.Installing.{few_in, stands_few, stands_install}
 use Rattle.object_store.proofs.Keys.{claimant_stays, replay_install_other, replay_refused}
 use Rattle.object_store.proofs.Moving.{claimed_is, nothing_done, stands_more, still}
 use Rattle.object_store.proofs.Standing.{each_grown, named, stands_so}
+use Rattle.object_store.proofs.Tables.{table_more}
 use Rattle.object_store.proofs.Taking.{verdict_is}
 use Rattle.object_store.proofs.Writing.{Prepares, not_wrote, there, wrote}
 
@@ -84,6 +86,7 @@ few_at store rid stands = stands_few (get rid_cmp store.repositories rid) rid st
 pub record Judges {D : Type 0} (old mid : Store D) (rid : Rid) (offer : Offer) (scope : Scope) (verdict : Result Judged Whole) : Type 0 where
   pub journal : mid.journal ≡ old.journal
   pub keyring : mid.keyring ≡ old.keyring
+  pub table : mid.table ≡ old.table
   pub entries : mid.history.entries.items ≡ old.history.entries.items
   pub others : (q : Rid) → (q ≡ rid → ⊥) → get rid_cmp mid.repositories q ≡ get rid_cmp old.repositories q
   pub same : get rid_cmp mid.repositories rid ≡ get rid_cmp old.repositories rid
@@ -91,11 +94,11 @@ pub record Judges {D : Type 0} (old mid : Store D) (rid : Rid) (offer : Offer) (
 
 -- a judging that memory refused
 pub judged_nothing : {D : Type 0} (reads : D → Option (List ℕ)) (images : D → List ℕ → Type 0) (moment : D → ℕ) (since : D → ℕ → List ℕ → Type 0) (now : (disk : D) (image : List ℕ) → since disk (moment disk) image → images disk image) (old mid : Store D) (core : Core) (rid : Rid) → StandsFor old core.items
-    → mid.keyring ≡ old.keyring → mid.history.entries.items ≡ old.history.entries.items → mid.journal ≡ old.journal
+    → mid.keyring ≡ old.keyring → mid.table ≡ old.table → mid.history.entries.items ≡ old.history.entries.items → mid.journal ≡ old.journal
     → ((q : Rid) → (q ≡ rid → ⊥) → get rid_cmp mid.repositories q ≡ get rid_cmp old.repositories q) → get rid_cmp mid.repositories rid ≡ get rid_cmp old.repositories rid
     → Moves reads images moment since old mid core []
-judged_nothing reads images moment since now old mid core rid s k e j others same =
-    nothing_done reads images moment since now old mid core s k e j (each_still old.repositories mid.repositories rid core.items s.each others same)
+judged_nothing reads images moment since now old mid core rid s k t e j others same =
+    nothing_done reads images moment since now old mid core s k (ap kept_in t) e j (each_still old.repositories mid.repositories rid core.items s.each others same)
 
 module _ {D : Type 0} (reads : D → Option (List ℕ)) (images : D → List ℕ → Type 0) (moment : D → ℕ) (since : D → ℕ → List ℕ → Type 0) (now : (disk : D) (image : List ℕ) → since disk (moment disk) image → images disk image) (old mid : Store D) (rid : Rid) (offer : Offer) (scope : Scope) (verdict : Result Judged Whole) (caller : ℕ)
     (c : HasClaimed old rid caller) (g : Judges old mid rid offer scope verdict) where
@@ -104,10 +107,10 @@ module _ {D : Type 0} (reads : D → Option (List ℕ)) (images : D → List ℕ
   told_on items s = verdict_is (get rid_cmp old.repositories rid) rid old.keyring items offer scope verdict (there old rid caller c) s.legal (s.each rid) g.told
 
   -- a whole refusal
-  pub judged_refused : (new : Store D) (core : Core) (why : Whole) → verdict ≡ Err why → StandsFor old core.items → new.journal ≡ mid.journal → new.keyring ≡ mid.keyring
+  pub judged_refused : (new : Store D) (core : Core) (why : Whole) → verdict ≡ Err why → StandsFor old core.items → new.journal ≡ mid.journal → new.keyring ≡ mid.keyring → new.table ≡ mid.table
       → new.repositories ≡ mid.repositories → new.history.entries.items ≡ mid.history.entries.items ++ Refused rid why caller ∷ []
       → IsInstall reads images moment since old new core rid offer scope caller (Ok (Err why))
-  judged_refused new core why v s j k r e =
+  judged_refused new core why v s j k t r e =
       let item = refused rid why caller in
       let items = core.items ++ item ∷ [] in
       let lawful : Lawful old.keyring core.items item = claimed_is old core.items rid caller c s in
@@ -116,7 +119,8 @@ module _ {D : Type 0} (reads : D → Option (List ℕ)) (images : D → List ℕ
         record {
           next = next;
           runs = (next, (lawful, refl), refl);
-          stands = stands_more old new core.items item s lawful (k ∙ g.keyring) (e ∙ ap (λ (l : List Entry). l ++ Refused rid why caller ∷ []) g.entries)
+          stands = stands_more old new core.items item s lawful (k ∙ g.keyring)
+              (table_more (kept_in old.table) (kept_in new.table) core.items item refl (ap kept_in (t ∙ g.table)) s.table) (e ∙ ap (λ (l : List Entry). l ++ Refused rid why caller ∷ []) g.entries)
               (subst (λ (m : BTreeMap Rid Repository). (q : Rid) → StandsKnown (get rid_cmp m q) q items) (sym r)
               (λ q. stands_so (get rid_cmp mid.repositories q) q core.items items (replay_refused q rid core.items why caller) (claimant_stays q core.items item tt)
               (each_still old.repositories mid.repositories rid core.items s.each g.others g.same q)));
@@ -142,13 +146,14 @@ module _ {D : Type 0} (reads : D → Option (List ℕ)) (images : D → List ℕ
     prepares = record {
       journal = p.journal ∙ g.journal;
       keyring = p.keyring ∙ g.keyring;
+      table = p.table ∙ g.table;
       entries = p.entries ∙ g.entries;
       others = λ q other. p.others q other ∙ g.others q other;
       same = subst (λ (r : Option Repository). IsSame r (get rid_cmp ready.repositories rid)) g.same p.same;
     }
 
     module _ (new : Store D) (core : Core) (s : StandsFor old core.items)
-        (others : (q : Rid) → (q ≡ rid → ⊥) → get rid_cmp new.repositories q ≡ get rid_cmp ready.repositories q) (k : new.keyring ≡ ready.keyring) (body : List ℕ) (entry : Entry)
+        (others : (q : Rid) → (q ≡ rid → ⊥) → get rid_cmp new.repositories q ≡ get rid_cmp ready.repositories q) (k : new.keyring ≡ ready.keyring) (t : new.table ≡ ready.table) (body : List ℕ) (entry : Entry)
         (b : body ≡ install_text rid judged.next_id judged.advanced)
         (en : entry ≡ Install (own_rid (get rid_cmp mid.repositories rid) rid) judged.next_id judged.advanced caller)
         (staged : HasStagedInstall judged.next_id judged.advanced (get rid_cmp mid.repositories rid) (get rid_cmp ready.repositories rid)) where
@@ -181,19 +186,19 @@ module _ {D : Type 0} (reads : D → Option (List ℕ)) (images : D → List ℕ
       -- an install that was written
       pub installed : HasWritten reads images moment since ready new rid entry body → IsInstall reads images moment since old new core rid offer scope caller (Ok (Ok judged))
       installed w =
-          (verdict, wrote reads images moment since now old ready new core rid s prepares others k caller (install_of rid caller judged) tt lawful body entry b entry_is w (grown w.admitted))
+          (verdict, wrote reads images moment since now old ready new core rid s prepares others k t caller (install_of rid caller judged) tt refl lawful body entry b entry_is w (grown w.admitted))
 
       -- an install that was not
       pub not_installed : (fault : KeepFault) → length body ≡ install_size judged.advanced → (fault ≡ keeps.Full → 2 ^ 40 < ready.journal.end + 10 + length body)
           → IsWriteFault reads images moment since ready new rid caller entry body fault
           → IsInstall reads images moment since old new core rid offer scope caller (Err fault)
-      not_installed keeps.DiskFault size full w = (judged, verdict, not_wrote reads images moment since now old ready new core rid s prepares others k caller (install_of rid caller judged) tt lawful body entry b entry_is keeps.DiskFault w)
+      not_installed keeps.DiskFault size full w = (judged, verdict, not_wrote reads images moment since now old ready new core rid s prepares others k t caller (install_of rid caller judged) tt refl lawful body entry b entry_is keeps.DiskFault w)
       not_installed keeps.Full size full w = (
         judged,
         verdict,
         subst (λ (n : ℕ). 2 ^ 40 < old.journal.end + 10 + n) size
             (subst (λ (x : Journal D). 2 ^ 40 < x.end + 10 + length body) prepares.journal (full refl)),
-        not_wrote reads images moment since now old ready new core rid s prepares others k caller (install_of rid caller judged) tt lawful body entry b entry_is keeps.Full w,
+        not_wrote reads images moment since now old ready new core rid s prepares others k t caller (install_of rid caller judged) tt refl lawful body entry b entry_is keeps.Full w,
       )
       not_installed (keeps.Changed change) size full w = absurd w
       not_installed keeps.NoMemory size full w = absurd w

@@ -10,7 +10,8 @@ use Rattle.rad_base.specs.declared.names.Oid.{Oid}
 use Rattle.rad_base.specs.declared.names.Rid.{Rid}
 use Rattle.rad_base.proofs.NameOrder.{equal_from_is_eq, equals_itself, oid_exact}
 use Rattle.commit_graph.specs.Objects.{Object}
-use Rattle.repo_entries.specs.Items.{Item, claim, install, missed, put, refused}
+use Rattle.gossip_wire.specs.declared.message.Message.{Message}
+use Rattle.repo_entries.specs.Items.{Item, claim, heard, install, missed, put, refused}
 use Rattle.repo_entries.specs.declared.entry.Left.{Left}
 use Rattle.repo_entries.specs.declared.whole.Whole.{Whole}
 use Rattle.legal_history.specs.Replays.{Standing, after_install, after_item, after_items, after_put, claimant, is_same, nothing_stands, replay}
@@ -67,6 +68,9 @@ replay_install_other rid of items id remotes caller other =
 pub replay_claim : (rid of : Rid) (items : List Item) (caller : ℕ) → replay rid (items ++ claim of caller ∷ []) ≡ replay rid items
 replay_claim rid of items caller = after-append rid nothing_stands items (claim of caller ∷ [])
 
+pub replay_heard : (rid : Rid) (items : List Item) (message : Message) (caller : ℕ) → replay rid (items ++ heard message caller ∷ []) ≡ replay rid items
+replay_heard rid items message caller = after-append rid nothing_stands items (heard message caller ∷ [])
+
 pub replay_missed : (rid : Rid) (items : List Item) (of : Option Rid) (left : Left) (caller : ℕ) → replay rid (items ++ missed of left caller ∷ []) ≡ replay rid items
 replay_missed rid items of left caller = after-append rid nothing_stands items (missed of left caller ∷ [])
 
@@ -78,6 +82,7 @@ abbrev pub IsNoClaim : Item → Type 0
 IsNoClaim (claim rid caller) = ⊥
 IsNoClaim (put rid batch caller) = Unit {0}
 IsNoClaim (install rid id remotes caller) = Unit {0}
+IsNoClaim (heard message caller) = Unit {0}
 IsNoClaim (missed of left caller) = Unit {0}
 IsNoClaim (refused rid why caller) = Unit {0}
 
@@ -85,6 +90,7 @@ nobody : (rid : Rid) (item : Item) → IsNoClaim item → claimant rid (item ∷
 nobody rid (claim q c) free = absurd free
 nobody rid (put q b c) free = refl
 nobody rid (install q i r c) free = refl
+nobody rid (heard m c) free = refl
 nobody rid (missed q l c) free = refl
 nobody rid (refused q w c) free = refl
 
@@ -94,5 +100,6 @@ claimant_stays rid [] item free = nobody rid item free
 claimant_stays rid (claim q c ∷ items) item free = ap (λ (n : ℕ). if is_same rid q then c else n) (claimant_stays rid items item free)
 claimant_stays rid (put q b c ∷ items) item free = claimant_stays rid items item free
 claimant_stays rid (install q i r c ∷ items) item free = claimant_stays rid items item free
+claimant_stays rid (heard m c ∷ items) item free = claimant_stays rid items item free
 claimant_stays rid (missed q l c ∷ items) item free = claimant_stays rid items item free
 claimant_stays rid (refused q w c ∷ items) item free = claimant_stays rid items item free

@@ -1,6 +1,7 @@
 pub mod Claiming
 pub mod Claims
 pub mod Heads
+pub mod Hearing
 pub mod Holding
 pub mod Installing
 pub mod Judging
@@ -15,6 +16,7 @@ pub mod Remotes
 pub mod Replying
 pub mod Showing
 pub mod Standing
+pub mod Tables
 pub mod Taking
 pub mod Wanting
 pub mod Writing

@@ -4,6 +4,8 @@ use Rattle.std.specs.BTreeMap.{get}
 use Rattle.std.proofs.lemmas.List.{append-nil, map-append}
 use Rattle.rad_base.specs.Order.{rid_cmp}
 use Rattle.rad_base.specs.declared.names.Rid.{Rid}
+use Rattle.announcements.specs.Held.{kept_in}
+use Rattle.announcements.specs.Tables.{IsTable, Keeping}
 use Rattle.keyring.specs.Contents.{Contents}
 use Rattle.ref_journal.specs.Holds.{CrashLeaves, Holds, LeavesDoubt, LeavesOnlyBetween, MendedMayHave}
 use Rattle.ref_journal.specs.Images.{IsLeft}
@@ -12,7 +14,7 @@ use Rattle.ref_journal.proofs.Entering.{left_has}
 use Rattle.ref_journal.proofs.Lasting.{leaves_more, leaves_none}
 use Rattle.ref_journal.specs.declared.faults.AppendFault.TheVariants as faults
 use Rattle.ref_journal.specs.declared.journal.Journal.{Journal}
-use Rattle.repo_entries.specs.Items.{Item, claim, entry_of, install, left_of, missed, put, refused}
+use Rattle.repo_entries.specs.Items.{Item, claim, entry_of, heard, install, left_of, missed, put, refused}
 use Rattle.repo_entries.specs.declared.entry.Entry.{Entry}
 use Rattle.repo_entries.specs.declared.entry.Entry.TheVariants.{Missed}
 use Rattle.repo_entries.specs.declared.entry.Left.{Left}
@@ -22,7 +24,7 @@ use Rattle.entry_bodies.specs.Bodies.{body_of}
 use Rattle.legal_history.specs.Cores.{Core, Event, Runs, doubts, enters, mends, misses}
 use Rattle.legal_history.specs.Durable.{IsDurable, durable_part, reopened}
 use Rattle.legal_history.specs.Histories.{Lawful, Legal}
-use Rattle.legal_history.specs.Replays.{claimant}
+use Rattle.legal_history.specs.Replays.{claimant, messages_in}
 use Rattle.legal_history.proofs.Durables.{durable-append, durable_more, legal_more}
 use Rattle.object_store.specs.Bodies.{bodies_of, body_in_doubt}
 use Rattle.object_store.specs.Entries.{left_by, missed_entry}
@@ -30,12 +32,14 @@ use Rattle.object_store.specs.Repositories.{StandsKnown}
 use Rattle.object_store.specs.Stores.{HasClaimed, IsLeftDuring, IsOnDisk, IsRefusedCall, Moves, StandsFor}
 use Rattle.object_store.specs.declared.store.Store.{Store}
 use Rattle.object_store.proofs.Standing.{claimant_told, each_missed}
+use Rattle.object_store.proofs.Tables.{table_more}
 
 -- an entry that is read again has its body
 pub same_body : (item : Item) → body_of (reopened item) ≡ body_of item
 same_body (claim rid caller) = refl
 same_body (put rid batch caller) = refl
 same_body (install rid id remotes caller) = refl
+same_body (heard message caller) = refl
 same_body (missed of left caller) = refl
 same_body (refused rid why caller) = refl
 
@@ -54,6 +58,7 @@ pub left_is : (item : Item) → IsDurable item → left_by (entry_of item) ≡ l
 left_is (claim rid caller) d = absurd d
 left_is (put rid batch caller) d = refl
 left_is (install rid id remotes caller) d = refl
+left_is (heard message caller) d = refl
 left_is (missed of left caller) d = absurd d
 left_is (refused rid why caller) d = absurd d
 
@@ -68,11 +73,13 @@ entries_more old new items item s e = e ∙ ap (λ (l : List Entry). l ++ entry_
 
 -- the store with one lawful entry more
 pub stands_more : {D : Type 0} (old new : Store D) (items : List Item) (item : Item) → StandsFor old items → Lawful old.keyring items item → new.keyring ≡ old.keyring
+    → IsTable (messages_in (items ++ item ∷ [])) (kept_in new.table)
     → new.history.entries.items ≡ old.history.entries.items ++ entry_of item ∷ []
     → ((q : Rid) → StandsKnown (get rid_cmp new.repositories q) q (items ++ item ∷ [])) → StandsFor new (items ++ item ∷ [])
-stands_more old new items item s lawful k e each = record {
+stands_more old new items item s lawful k table e each = record {
   entries = entries_more old new items item s e;
   each = each;
+  table = table;
   legal = subst (λ (keyring : Contents). Legal keyring (items ++ item ∷ [])) (sym k) (legal_more old.keyring [] items item s.legal lawful);
 }
 
@@ -123,20 +130,20 @@ module _ {D : Type 0} (reads : D → Option (List ℕ)) (images : D → List ℕ
       each (time bodies doubt h)
 
   -- an entry that was entered
-  pub entered : (item : Item) → IsDurable item → Lawful old.keyring core.items item
+  pub entered : (item : Item) → IsDurable item → Lawful old.keyring core.items item → IsTable (messages_in (core.items ++ item ∷ [])) (kept_in new.table)
       → new.history.entries.items ≡ old.history.entries.items ++ entry_of item ∷ []
       → ((q : Rid) → StandsKnown (get rid_cmp new.repositories q) q (core.items ++ item ∷ []))
       → ((bodies : List (List ℕ)) (doubt : Option (List ℕ)) → Holds reads images old.journal bodies doubt → Holds reads images new.journal (bodies ++ body_of item ∷ []) None)
       → CrashLeaves reads images moment since old.journal new.journal (MendedMayHave {T = Unit {0}} (Ok tt) (body_of item))
       → Moves reads images moment since old new core (mends ∷ enters item ∷ [])
-  entered item durable lawful e each holds time =
+  entered item durable lawful table e each holds time =
       let mended : Core = record { items = core.items; doubt = None } in
       let next : Core = record { items = core.items ++ item ∷ []; doubt = None } in
       let runs : Runs old.keyring core (mends ∷ enters item ∷ []) next = (mended, refl, (next, (refl, durable, lawful, refl), refl)) in
       record {
         next = next;
         runs = runs;
-        stands = stands_more old new core.items item s lawful k e each;
+        stands = stands_more old new core.items item s lawful k table e each;
         disk = λ h. subst (λ (bodies : List (List ℕ)). Holds reads images new.journal bodies None) (sym (bodies_more core.items item durable))
             (holds (bodies_of (durable_part core.items)) (body_in_doubt core.doubt) h);
         time = during (mends ∷ enters item ∷ []) (MendedMayHave {T = Unit {0}} (Ok tt) (body_of item)) (λ image has. elim has [
@@ -149,30 +156,30 @@ module _ {D : Type 0} (reads : D → Option (List ℕ)) (images : D → List ℕ
       }
 
   -- an entry that is left in doubt
-  pub doubted : (rid : Rid) (caller : ℕ) (item : Item) → IsDurable item → Lawful old.keyring core.items item
-      → new.history.entries.items ≡ old.history.entries.items ++ Missed (Some rid) (left_of item) caller ∷ []
+  pub doubted : (of : Option Rid) (caller : ℕ) (item : Item) → IsDurable item → Lawful old.keyring core.items item → kept_in new.table ≡ kept_in old.table
+      → new.history.entries.items ≡ old.history.entries.items ++ Missed of (left_of item) caller ∷ []
       → ((q : Rid) → StandsKnown (get rid_cmp new.repositories q) q core.items)
       → ((bodies : List (List ℕ)) (doubt : Option (List ℕ)) → Holds reads images old.journal bodies doubt → Holds reads images new.journal bodies (Some (body_of item)))
       → CrashLeaves reads images moment since old.journal new.journal (MendedMayHave {T = Unit {0}} (Err (faults.DiskFault true)) (body_of item))
-      → Moves reads images moment since old new core (mends ∷ doubts (Some rid) caller item ∷ [])
-  doubted rid caller item durable lawful e each holds time =
-      let note = missed (Some rid) (left_of item) caller in
+      → Moves reads images moment since old new core (mends ∷ doubts of caller item ∷ [])
+  doubted of caller item durable lawful t e each holds time =
+      let note = missed of (left_of item) caller in
       let mended : Core = record { items = core.items; doubt = None } in
       let next : Core = record { items = core.items ++ note ∷ []; doubt = Some item } in
-      let events = mends ∷ doubts (Some rid) caller item ∷ [] in
+      let events = mends ∷ doubts of caller item ∷ [] in
       let runs : Runs old.keyring core events next = (mended, refl, (next, (refl, durable, lawful, refl), refl)) in
       record {
         next = next;
         runs = runs;
-        stands = stands_more old new core.items note s tt k e (each_missed new.repositories core.items (Some rid) (left_of item) caller each);
-        disk = λ h. subst (λ (bodies : List (List ℕ)). Holds reads images new.journal bodies (Some (body_of item))) (sym (bodies_missed core.items (Some rid) (left_of item) caller))
+        stands = stands_more old new core.items note s tt k (table_more (kept_in old.table) (kept_in new.table) core.items note refl t s.table) e (each_missed new.repositories core.items of (left_of item) caller each);
+        disk = λ h. subst (λ (bodies : List (List ℕ)). Holds reads images new.journal bodies (Some (body_of item))) (sym (bodies_missed core.items of (left_of item) caller))
             (holds (bodies_of (durable_part core.items)) (body_in_doubt core.doubt) h);
         time = during events (MendedMayHave {T = Unit {0}} (Err (faults.DiskFault true)) (body_of item)) (λ image has. elim has [
           | inl may ↦ at_start old.keyring core events image may
-          | inr (inl none) ↦ behind_mend old.keyring core (doubts (Some rid) caller item ∷ []) image none
+          | inr (inl none) ↦ behind_mend old.keyring core (doubts of caller item ∷ []) image none
           | inr (inr one) ↦
               at_end old.keyring core events image next runs
-              (inr (subst (λ (bodies : List (List ℕ)). HasBodies (bodies ++ body_of item ∷ []) image) (sym (bodies_missed core.items (Some rid) (left_of item) caller)) one))
+              (inr (subst (λ (bodies : List (List ℕ)). HasBodies (bodies ++ body_of item ∷ []) image) (sym (bodies_missed core.items of (left_of item) caller)) one))
         ]) time;
       }
 
@@ -189,71 +196,72 @@ module _ {D : Type 0} (reads : D → Option (List ℕ)) (images : D → List ℕ
   doubtful bodies doubt (inl none) f = absurd (let flag = none.flag in cc)
 
   -- a fault that leaves nothing new
-  missed_nothing : (rid : Rid) (caller : ℕ) → new.history.entries.items ≡ old.history.entries.items ++ Missed (Some rid) lefts.Nothing caller ∷ []
+  missed_nothing : (of : Option Rid) (caller : ℕ) → kept_in new.table ≡ kept_in old.table → new.history.entries.items ≡ old.history.entries.items ++ Missed of lefts.Nothing caller ∷ []
       → ((q : Rid) → StandsKnown (get rid_cmp new.repositories q) q core.items)
       → ((bodies : List (List ℕ)) (doubt : Option (List ℕ)) → Holds reads images old.journal bodies doubt
       → Holds reads images new.journal bodies None ⊎ Holds reads images new.journal bodies doubt)
       → (body : List ℕ) → CrashLeaves reads images moment since old.journal new.journal (MendedMayHave {T = Unit {0}} (Err (faults.DiskFault false)) body)
-      → Moves reads images moment since old new core (mends ∷ misses (Some rid) caller ∷ []) ⊎ Moves reads images moment since old new core (misses (Some rid) caller ∷ [])
-  missed_nothing rid caller e each holds body time = by_flag new.journal.in_doubt refl
+      → Moves reads images moment since old new core (mends ∷ misses of caller ∷ []) ⊎ Moves reads images moment since old new core (misses of caller ∷ [])
+  missed_nothing of caller t e each holds body time = by_flag new.journal.in_doubt refl
     where
       note : Item
-      note = missed (Some rid) lefts.Nothing caller
+      note = missed of lefts.Nothing caller
 
-      stands : StandsFor new (core.items ++ missed (Some rid) lefts.Nothing caller ∷ [])
-      stands = stands_more old new core.items (missed (Some rid) lefts.Nothing caller) s tt k e (each_missed new.repositories core.items (Some rid) lefts.Nothing caller each)
+      stands : StandsFor new (core.items ++ missed of lefts.Nothing caller ∷ [])
+      stands = stands_more old new core.items (missed of lefts.Nothing caller) s tt k
+          (table_more (kept_in old.table) (kept_in new.table) core.items note refl t s.table) e (each_missed new.repositories core.items of lefts.Nothing caller each)
 
       by_flag : (flag : Bool) → new.journal.in_doubt ≡ flag
-          → Moves reads images moment since old new core (mends ∷ misses (Some rid) caller ∷ []) ⊎ Moves reads images moment since old new core (misses (Some rid) caller ∷ [])
+          → Moves reads images moment since old new core (mends ∷ misses of caller ∷ []) ⊎ Moves reads images moment since old new core (misses of caller ∷ [])
       by_flag false f =
           let mended : Core = record { items = core.items; doubt = None } in
-          let next : Core = record { items = core.items ++ missed (Some rid) lefts.Nothing caller ∷ []; doubt = None } in
+          let next : Core = record { items = core.items ++ missed of lefts.Nothing caller ∷ []; doubt = None } in
           inl (record {
             next = next;
             runs = (mended, refl, (next, refl, refl));
             stands = stands;
-            disk = λ h. subst (λ (bodies : List (List ℕ)). Holds reads images new.journal bodies None) (sym (bodies_missed core.items (Some rid) lefts.Nothing caller))
+            disk = λ h. subst (λ (bodies : List (List ℕ)). Holds reads images new.journal bodies None) (sym (bodies_missed core.items of lefts.Nothing caller))
                 (settled (bodies_of (durable_part core.items)) (body_in_doubt core.doubt) (holds (bodies_of (durable_part core.items)) (body_in_doubt core.doubt) h) f);
-            time = during (mends ∷ misses (Some rid) caller ∷ []) (MendedMayHave {T = Unit {0}} (Err (faults.DiskFault false)) body) (λ image has. elim has [
-              | inl may ↦ at_start old.keyring core (mends ∷ misses (Some rid) caller ∷ []) image may
-              | inr none ↦ behind_mend old.keyring core (misses (Some rid) caller ∷ []) image none
+            time = during (mends ∷ misses of caller ∷ []) (MendedMayHave {T = Unit {0}} (Err (faults.DiskFault false)) body) (λ image has. elim has [
+              | inl may ↦ at_start old.keyring core (mends ∷ misses of caller ∷ []) image may
+              | inr none ↦ behind_mend old.keyring core (misses of caller ∷ []) image none
             ]) time;
           })
       by_flag true f =
-          let next : Core = record { items = core.items ++ missed (Some rid) lefts.Nothing caller ∷ []; doubt = core.doubt } in
+          let next : Core = record { items = core.items ++ missed of lefts.Nothing caller ∷ []; doubt = core.doubt } in
           inr (record {
             next = next;
             runs = (next, refl, refl);
             stands = stands;
-            disk = λ h. subst (λ (bodies : List (List ℕ)). Holds reads images new.journal bodies (body_in_doubt core.doubt)) (sym (bodies_missed core.items (Some rid) lefts.Nothing caller))
+            disk = λ h. subst (λ (bodies : List (List ℕ)). Holds reads images new.journal bodies (body_in_doubt core.doubt)) (sym (bodies_missed core.items of lefts.Nothing caller))
                 (doubtful (bodies_of (durable_part core.items)) (body_in_doubt core.doubt) (holds (bodies_of (durable_part core.items)) (body_in_doubt core.doubt) h) f);
-            time = during (misses (Some rid) caller ∷ []) (MendedMayHave {T = Unit {0}} (Err (faults.DiskFault false)) body) (λ image has. elim has [
-              | inl may ↦ at_start old.keyring core (misses (Some rid) caller ∷ []) image may
+            time = during (misses of caller ∷ []) (MendedMayHave {T = Unit {0}} (Err (faults.DiskFault false)) body) (λ image has. elim has [
+              | inl may ↦ at_start old.keyring core (misses of caller ∷ []) image may
               | inr none ↦
-                  at_start old.keyring core (misses (Some rid) caller ∷ []) image
+                  at_start old.keyring core (misses of caller ∷ []) image
                   (without_doubt (bodies_of (durable_part core.items)) (body_in_doubt core.doubt) image none)
             ]) time;
           })
 
   -- a call that a fault of the disk refused
-  pub fault_left : (rid : Rid) (caller : ℕ) (item : Item) (in_doubt : Bool) → IsDurable item → Lawful old.keyring core.items item
-      → new.history.entries.items ≡ old.history.entries.items ++ missed_entry (entry_of item) rid caller in_doubt ∷ []
+  pub fault_left : (of : Option Rid) (caller : ℕ) (item : Item) (in_doubt : Bool) → IsDurable item → Lawful old.keyring core.items item → kept_in new.table ≡ kept_in old.table
+      → new.history.entries.items ≡ old.history.entries.items ++ missed_entry (entry_of item) of caller in_doubt ∷ []
       → ((q : Rid) → StandsKnown (get rid_cmp new.repositories q) q core.items)
       → ((bodies : List (List ℕ)) (doubt : Option (List ℕ)) → Holds reads images old.journal bodies doubt
       → LeavesDoubt reads images bodies doubt (body_of item) new.journal (faults.DiskFault in_doubt))
       → CrashLeaves reads images moment since old.journal new.journal (MendedMayHave {T = Unit {0}} (Err (faults.DiskFault in_doubt)) (body_of item))
-      → IsRefusedCall reads images moment since old new core rid caller item DiskFault
-  fault_left rid caller item true durable lawful e each left time =
-      inl (doubted rid caller item durable lawful (e ∙ ap (λ (l : Left). old.history.entries.items ++ Missed (Some rid) l caller ∷ []) (left_is item durable)) each left time)
-  fault_left rid caller item false durable lawful e each left time = inr (missed_nothing rid caller e each left (body_of item) time)
+      → IsRefusedCall reads images moment since old new core of caller item DiskFault
+  fault_left of caller item true durable lawful t e each left time =
+      inl (doubted of caller item durable lawful t (e ∙ ap (λ (l : Left). old.history.entries.items ++ Missed of l caller ∷ []) (left_is item durable)) each left time)
+  fault_left of caller item false durable lawful t e each left time = inr (missed_nothing of caller t e each left (body_of item) time)
 
   -- nothing happened
-  pub nothing_done : new.history.entries.items ≡ old.history.entries.items → new.journal ≡ old.journal → ((q : Rid) → StandsKnown (get rid_cmp new.repositories q) q core.items)
+  pub nothing_done : kept_in new.table ≡ kept_in old.table → new.history.entries.items ≡ old.history.entries.items → new.journal ≡ old.journal → ((q : Rid) → StandsKnown (get rid_cmp new.repositories q) q core.items)
       → Moves reads images moment since old new core []
-  nothing_done e j each = record {
+  nothing_done t e j each = record {
     next = core;
     runs = refl;
-    stands = record { entries = e ∙ s.entries; each = each; legal = subst (λ (keyring : Contents). Legal keyring core.items) (sym k) s.legal };
+    stands = record { entries = e ∙ s.entries; each = each; table = subst (λ (table : Keeping). IsTable (messages_in core.items) table) (sym t) s.table; legal = subst (λ (keyring : Contents). Legal keyring core.items) (sym k) s.legal };
     disk = λ h. subst (λ (x : Journal D). Holds reads images x (bodies_of (durable_part core.items)) (body_in_doubt core.doubt)) (sym j) h;
     time = still [] j;
   }

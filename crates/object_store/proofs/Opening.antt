@@ -9,7 +9,7 @@ use Rattle.keyring.specs.Contents.{Contents}
 use Rattle.ref_journal.specs.Holds.{Holds}
 use Rattle.ref_journal.specs.Images.{IsJournal}
 use Rattle.ref_journal.specs.declared.journal.Journal.{Journal}
-use Rattle.repo_entries.specs.Items.{Item, claim, install, missed, put, refused}
+use Rattle.repo_entries.specs.Items.{Item, claim, heard, install, missed, put, refused}
 use Rattle.entry_bodies.specs.Bodies.{HasBody}
 use Rattle.legal_history.specs.Replays.{claimant}
 use Rattle.object_store.specs.Held.{IsUnclaimed}
@@ -27,13 +27,13 @@ Told reads images journal known = IfSome known (λ bytes. (bodies : List (List �
 
 -- the store of what was read
 abbrev pub store_of : {D : Type 0} → Journal D → Contents → Replayed → Store D
-store_of journal keyring r = record { journal = journal; keyring = keyring; repositories = r.repositories; history = r.history }
+store_of journal keyring r = record { journal = journal; keyring = keyring; repositories = r.repositories; table = r.table; history = r.history }
 
 -- all stands
 pub opens_ok : {D : Type 0} (reads : D → Option (List ℕ)) (images : D → List ℕ → Type 0) (old new : Journal D) (keyring : Contents) (r : Replayed)
     → IsReading reads images old keyring (Ok r) → OpensAs keyring (store_of new keyring r)
 opens_ok reads images old new keyring r (items, bodies, replayed, only) =
-    (refl, (items, record { entries = replayed.entries; each = replayed.each; legal = replayed.legal }))
+    (refl, (items, record { entries = replayed.entries; each = replayed.each; table = replayed.table; legal = replayed.legal }))
 
 -- nobody claimed anything in entries that were read
 unclaimed : (rid : Rid) (items : List Item) → AllByRecursion HasBody items → claimant rid items ≡ 0
@@ -41,6 +41,7 @@ unclaimed rid [] h = refl
 unclaimed rid (claim q c ∷ items) h = absurd h.0
 unclaimed rid (put q b c ∷ items) h = unclaimed rid items h.1
 unclaimed rid (install q i r c ∷ items) h = unclaimed rid items h.1
+unclaimed rid (heard m c ∷ items) h = unclaimed rid items h.1
 unclaimed rid (missed q l c ∷ items) h = absurd h.0
 unclaimed rid (refused q w c ∷ items) h = absurd h.0
 
@@ -57,7 +58,7 @@ opened_ok reads images old new keyring (Some bytes) r (bodies, text, h) keeps (i
     let same = only bodies h in (
       items,
       record { had_bodies = had; end = old.end; journal = subst (λ (l : List (List ℕ)). IsJournal l old.end bytes) same text },
-      record { entries = replayed.entries; each = replayed.each; legal = replayed.legal },
+      record { entries = replayed.entries; each = replayed.each; table = replayed.table; legal = replayed.legal },
       subst (λ (l : List (List ℕ)). Holds reads images new l None) same (keeps bodies h),
     )
 

@@ -1,5 +1,5 @@
 -- What a put makes of a store.
-use Rattle.std.proofs.Common.{◌≡◌, ℕ, List, [], ◌∷◌, ◌++◌, Option, Result, Ok, Err, ap, subst, ◌∙◌}
+use Rattle.std.proofs.Common.{◌≡◌, ℕ, List, [], ◌∷◌, ◌++◌, Option, Result, Ok, Err, refl, ap, subst, ◌∙◌}
 use Rattle.std.specs.Prelude.{IfErr, OnOk}
 use Rattle.std.specs.BTreeMap.{get}
 use Rattle.rad_base.specs.Order.{rid_cmp}
@@ -23,7 +23,7 @@ use Rattle.object_store.proofs.Standing.{each_grown, named, stands_put}
 use Rattle.object_store.proofs.Writing.{Prepares, not_wrote, there, wrote}
 
 module _ {D : Type 0} (reads : D → Option (List ℕ)) (images : D → List ℕ → Type 0) (moment : D → ℕ) (since : D → ℕ → List ℕ → Type 0) (now : (disk : D) (image : List ℕ) → since disk (moment disk) image → images disk image) (old mid new : Store D) (core : Core) (rid : Rid) (s : StandsFor old core.items) (p : Prepares old mid rid)
-    (others : (q : Rid) → (q ≡ rid → ⊥) → get rid_cmp new.repositories q ≡ get rid_cmp mid.repositories q) (k : new.keyring ≡ mid.keyring)
+    (others : (q : Rid) → (q ≡ rid → ⊥) → get rid_cmp new.repositories q ≡ get rid_cmp mid.repositories q) (k : new.keyring ≡ mid.keyring) (t : new.table ≡ mid.table)
     (batch : List Object) (caller : ℕ) (body : List ℕ) (entry : Entry) (c : HasClaimed old rid caller) (is : IsBatch batch)
     (staged : HasStagedPut batch (get rid_cmp old.repositories rid) (get rid_cmp mid.repositories rid)) (b : body ≡ put_text rid batch)
     (en : entry ≡ Put (own_rid (get rid_cmp old.repositories rid) rid) (names_of batch) caller) where
@@ -44,5 +44,5 @@ module _ {D : Type 0} (reads : D → Option (List ℕ)) (images : D → List ℕ
   -- a put, by what its write answered
   pub put_by : (result : Result (Unit {0}) KeepFault) → OnOk result (HasWritten reads images moment since mid new rid entry body) → IfErr result (IsWriteFault reads images moment since mid new rid caller entry body)
       → IsPut reads images moment since old new core rid batch caller result
-  put_by (Ok done) w f = wrote reads images moment since now old mid new core rid s p others k caller (put rid batch caller) tt lawful body entry b entry_is w (grown w.admitted)
-  put_by (Err fault) w f = not_wrote reads images moment since now old mid new core rid s p others k caller (put rid batch caller) tt lawful body entry b entry_is fault f
+  put_by (Ok done) w f = wrote reads images moment since now old mid new core rid s p others k t caller (put rid batch caller) tt refl lawful body entry b entry_is w (grown w.admitted)
+  put_by (Err fault) w f = not_wrote reads images moment since now old mid new core rid s p others k t caller (put rid batch caller) tt refl lawful body entry b entry_is fault f

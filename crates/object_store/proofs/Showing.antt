@@ -9,7 +9,7 @@ use Rattle.git_object.specs.Names.{name}
 use Rattle.commit_graph.specs.InMemory.{objects_in}
 use Rattle.commit_graph.specs.Objects.{Object, ObjectMap}
 use Rattle.keyring.specs.Contents.{Contents}
-use Rattle.repo_entries.specs.Items.{Item, claim, install, missed, put, refused}
+use Rattle.repo_entries.specs.Items.{Item, claim, heard, install, missed, put, refused}
 use Rattle.repo_slice.specs.Slices.{objects_of, state_of}
 use Rattle.repo_slice.specs.Standing.{replaced}
 use Rattle.repo_slice.specs.declared.state.State.{State}
@@ -42,6 +42,7 @@ lives_item rid s (install of id remotes caller) h = by_test (is_same rid of)
     by_test : (b : Bool) → Lives (if b then record { objects = s.objects; id = Some id; remotes = replaced s.remotes remotes } else s)
     by_test true = inl (λ e. not_none id e)
     by_test false = h
+lives_item rid s (heard message caller) h = h
 lives_item rid s (missed of left caller) h = h
 lives_item rid s (refused of why caller) h = h
 
@@ -54,6 +55,7 @@ abbrev pub IsFilled : Item → Type 0
 IsFilled (claim of caller) = Unit {0}
 IsFilled (put of batch caller) = 1 ≤ length batch
 IsFilled (install of id remotes caller) = Unit {0}
+IsFilled (heard message caller) = Unit {0}
 IsFilled (missed of left caller) = Unit {0}
 IsFilled (refused of why caller) = Unit {0}
 
@@ -62,6 +64,7 @@ filled_from keyring before [] l = tt
 filled_from keyring before (claim of caller ∷ items) l = (tt, filled_from keyring (before ++ claim of caller ∷ []) items l.1)
 filled_from keyring before (put of batch caller ∷ items) l = (l.0.0.run.some, filled_from keyring (before ++ put of batch caller ∷ []) items l.1)
 filled_from keyring before (install of id remotes caller ∷ items) l = (tt, filled_from keyring (before ++ install of id remotes caller ∷ []) items l.1)
+filled_from keyring before (heard message caller ∷ items) l = (tt, filled_from keyring (before ++ heard message caller ∷ []) items l.1)
 filled_from keyring before (missed of left caller ∷ items) l = (tt, filled_from keyring (before ++ missed of left caller ∷ []) items l.1)
 filled_from keyring before (refused of why caller ∷ items) l = (tt, filled_from keyring (before ++ refused of why caller ∷ []) items l.1)
 
@@ -87,6 +90,7 @@ made_lives rid s (put of batch caller) f c =
 made_lives rid s (install of id remotes caller) f c =
     subst (λ (b : Bool). Lives (if b then record { objects = s.objects; id = Some id; remotes = replaced s.remotes remotes } else s))
     (sym (ap (λ (x : Rid). is_same rid x) c ∙ is_itself rid)) (inl (λ e. not_none id e))
+made_lives rid s (heard message caller) f c = absurd c
 made_lives rid s (missed of left caller) f c = absurd c
 made_lives rid s (refused of why caller) f c = absurd c
 
@@ -108,6 +112,7 @@ nothing_made rid s (install of id remotes caller) other = by_test (is_same rid o
     by_test : (b : Bool) → is_same rid of ≡ b → (if b then record { objects = s.objects; id = Some id; remotes = replaced s.remotes remotes } else s) ≡ s
     by_test true e = absurd (other (sym (same_is rid of e)))
     by_test false e = refl
+nothing_made rid s (heard message caller) other = refl
 nothing_made rid s (missed of left caller) other = refl
 nothing_made rid s (refused of why caller) other = refl
 
@@ -121,6 +126,7 @@ concerns_or_not : (rid : Rid) (item : Item) → Concerns rid item ⊎ (Concerns 
 concerns_or_not rid (claim of caller) = inr (λ c. c)
 concerns_or_not rid (put of batch caller) = elim (same_or_other of rid) [ inl e ↦ inl e | inr (other, test) ↦ inr other ]
 concerns_or_not rid (install of id remotes caller) = elim (same_or_other of rid) [ inl e ↦ inl e | inr (other, test) ↦ inr other ]
+concerns_or_not rid (heard message caller) = inr (λ c. c)
 concerns_or_not rid (missed of left caller) = inr (λ c. c)
 concerns_or_not rid (refused of why caller) = inr (λ c. c)
 

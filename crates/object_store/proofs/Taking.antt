@@ -11,9 +11,11 @@ use Rattle.rad_base.specs.declared.names.Rid.{Rid}
 use Rattle.rad_base.specs.declared.offer.Offer.{Offer}
 use Rattle.rad_base.proofs.EachItem.{each_more}
 use Rattle.commit_graph.specs.Objects.{Object, ObjectMap}
+use Rattle.announcements.specs.Held.{kept_in}
+use Rattle.announcements.specs.Tables.{IsTable}
 use Rattle.keyring.specs.Contents.{Contents}
 use Rattle.repo_entries.specs.Batches.{IsBatch}
-use Rattle.repo_entries.specs.Items.{Item, claim, entry_of, install, missed, names_of, put, refused}
+use Rattle.repo_entries.specs.Items.{Item, claim, entry_of, heard, install, missed, names_of, put, refused}
 use Rattle.repo_entries.specs.declared.entry.Entry.{Entry}
 use Rattle.repo_entries.specs.declared.entry.Entry.TheVariants.{Install, Put}
 use Rattle.repo_entries.specs.declared.whole.Whole.{Whole}
@@ -26,7 +28,7 @@ use Rattle.repo_slice.specs.Slices.{objects_of}
 use Rattle.repo_slice.proofs.OneVerdict.{judged_or_refused, one_judged}
 use Rattle.entry_bodies.specs.Bodies.{HasBody}
 use Rattle.legal_history.specs.Histories.{Lawful, Legal, MayInstall}
-use Rattle.legal_history.specs.Replays.{claimant, replay, replayed_state}
+use Rattle.legal_history.specs.Replays.{claimant, messages_in, replay, replayed_state}
 use Rattle.legal_history.proofs.Durables.{legal_more}
 use Rattle.legal_history.proofs.GoodStandings.{legal_is_good}
 use Rattle.object_store.specs.Installs.{HasFew, HasStagedInstall, IsThere, IsVerdictAt, IsWholeAdvance}
@@ -37,6 +39,7 @@ use Rattle.object_store.specs.declared.repository.Repository.{Repository}
 use Rattle.object_store.proofs.Installing.{known_there, stands_few, stands_good, stands_install, stands_known}
 use Rattle.object_store.proofs.Keys.{claimant_stays, replay_install_other, replay_put_other}
 use Rattle.object_store.proofs.Standing.{each_grown, named, stands_put}
+use Rattle.object_store.proofs.Tables.{table_more}
 
 -- behind an entry that is not legal
 illegal_more : (keyring : Contents) (n : ℕ) (items : List Item) (item : Item) → IsIllegalAt keyring n items → IsIllegalAt keyring n (items ++ item ∷ [])
@@ -71,6 +74,7 @@ unclaimed rid [] each = refl
 unclaimed rid (claim q c ∷ items) each = absurd each.0
 unclaimed rid (put q b c ∷ items) each = unclaimed rid items each.1
 unclaimed rid (install q i r c ∷ items) each = unclaimed rid items each.1
+unclaimed rid (heard m c ∷ items) each = unclaimed rid items each.1
 unclaimed rid (missed q l c ∷ items) each = absurd each.0
 unclaimed rid (refused q w c ∷ items) each = absurd each.0
 
@@ -88,13 +92,15 @@ took_illegal keyring old items item n unlawful c h = record {
 }
 
 -- an entry that is lawful
-took : (keyring : Contents) (old new : Replayed) (items : List Item) (item : Item) (entry : Entry) → HasBody item → Lawful keyring items item → entry ≡ entry_of item
-    → new.history.entries.items ≡ old.history.entries.items ++ entry ∷ [] → ((q : Rid) → StandsKnown (get rid_cmp new.repositories q) q (items ++ item ∷ [])) → new.illegal ≡ None
+pub took : (keyring : Contents) (old new : Replayed) (items : List Item) (item : Item) (entry : Entry) → HasBody item → Lawful keyring items item → entry ≡ entry_of item
+    → new.history.entries.items ≡ old.history.entries.items ++ entry ∷ [] → ((q : Rid) → StandsKnown (get rid_cmp new.repositories q) q (items ++ item ∷ []))
+    → IsTable (messages_in (items ++ item ∷ [])) (kept_in new.table) → new.illegal ≡ None
     → HasReplayed keyring old items → HasReplayedSo keyring new new.illegal (items ++ item ∷ [])
-took keyring old new items item entry body lawful en e each none h = read_none keyring new new.illegal (items ++ item ∷ []) none (record {
+took keyring old new items item entry body lawful en e each table none h = read_none keyring new new.illegal (items ++ item ∷ []) none (record {
   bodies = each_more HasBody items item h.bodies body;
   entries = e ∙ ap (λ (l : List Entry). l ++ entry ∷ []) h.entries ∙ ap (λ (x : Entry). map entry_of items ++ x ∷ []) en ∙ sym (map-append entry_of items (item ∷ []));
   each = each;
+  table = table;
   legal = legal_more keyring [] items item h.legal lawful;
 })
 
@@ -102,7 +108,7 @@ module _ (keyring : Contents) (old new : Replayed) (k m : BTreeMap Rid Repositor
     (others1 : (q : Rid) → (q ≡ rid → ⊥) → get rid_cmp k q ≡ get rid_cmp old.repositories q) (known : IsThere rid (get rid_cmp old.repositories rid) (get rid_cmp k rid))
     (others2 : (q : Rid) → (q ≡ rid → ⊥) → get rid_cmp m q ≡ get rid_cmp k q) (same : IsSame (get rid_cmp k rid) (get rid_cmp m rid))
     (others3 : (q : Rid) → (q ≡ rid → ⊥) → get rid_cmp new.repositories q ≡ get rid_cmp m q) (items : List Item) (h : HasReplayed keyring old items)
-    (entry : Entry) (e : new.history.entries.items ≡ old.history.entries.items ++ entry ∷ []) (none : new.illegal ≡ None)
+    (entry : Entry) (e : new.history.entries.items ≡ old.history.entries.items ++ entry ∷ []) (t : new.table ≡ old.table) (none : new.illegal ≡ None)
     (admitted : IsAdmitted entry (get rid_cmp m rid) (get rid_cmp new.repositories rid)) where
   -- the repository was there, or made
   here : StandsKnown (get rid_cmp k rid) rid items
@@ -118,7 +124,8 @@ module _ (keyring : Contents) (old new : Replayed) (k m : BTreeMap Rid Repositor
       (λ q test. (replay_put_other q rid items batch 0 test, claimant_stays q items (put rid batch 0) tt))
       (stands_put (get rid_cmp k rid) (get rid_cmp m rid) (get rid_cmp new.repositories rid) rid (own_rid (get rid_cmp k rid) rid) items batch 0
       (known_there (get rid_cmp old.repositories rid) (get rid_cmp k rid) rid known) same staged
-      (subst (λ (x : Entry). IsAdmitted x (get rid_cmp m rid) (get rid_cmp new.repositories rid)) en admitted) here)) none h
+      (subst (λ (x : Entry). IsAdmitted x (get rid_cmp m rid) (get rid_cmp new.repositories rid)) en admitted) here))
+      (table_more (kept_in old.table) (kept_in new.table) items (put rid batch 0) refl (ap kept_in t) h.table) none h
 
   -- an install that is allowed stands
   pub took_install : (id : Oid) (remotes : List (Nid × Oid)) → HasBody (install rid id remotes 0) → MayInstall keyring items rid id remotes
@@ -131,7 +138,8 @@ module _ (keyring : Contents) (old new : Replayed) (k m : BTreeMap Rid Repositor
       (λ q test. (replay_install_other q rid items id remotes 0 test, claimant_stays q items (install rid id remotes 0) tt))
       (stands_install (get rid_cmp k rid) (get rid_cmp m rid) (get rid_cmp new.repositories rid) rid (own_rid (get rid_cmp k rid) rid) items id remotes 0
       (known_there (get rid_cmp old.repositories rid) (get rid_cmp k rid) rid known) (legal_is_good keyring rid items h.legal).rising body.0.rising same staged
-      (subst (λ (x : Entry). IsAdmitted x (get rid_cmp m rid) (get rid_cmp new.repositories rid)) en admitted) here)) none h
+      (subst (λ (x : Entry). IsAdmitted x (get rid_cmp m rid) (get rid_cmp new.repositories rid)) en admitted) here))
+      (table_more (kept_in old.table) (kept_in new.table) items (install rid id remotes 0) refl (ap kept_in t) h.table) none h
 
 -- the verdict on what stands
 pub verdict_is : (o : Option Repository) (rid : Rid) (keyring : Contents) (items : List Item) (offer : Offer) (scope : Scope) (verdict : Result Judged Whole) → (o ≡ None → ⊥) → Legal keyring items → StandsKnown o rid items

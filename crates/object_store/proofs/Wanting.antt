@@ -10,6 +10,9 @@ use Rattle.rad_base.specs.declared.offer.Offer.{Offer}
 use Rattle.rad_base.specs.declared.memory.NoMemory.{NoMemory}
 use Rattle.rad_base.proofs.Members.{contains_nothing}
 use Rattle.commit_graph.specs.Objects.{ObjectMap}
+use Rattle.announcements.specs.Held.{kept_in}
+use Rattle.announcements.specs.Tables.{IsTable}
+use Rattle.announcements.specs.declared.table.Table.{Table}
 use Rattle.keyring.specs.Contents.{Contents}
 use Rattle.repo_entries.specs.Items.{Item}
 use Rattle.repo_slice.specs.Good.{IsGood}
@@ -21,7 +24,7 @@ use Rattle.repo_slice.specs.declared.slice.Slice.{Slice}
 use Rattle.repo_slice.specs.declared.state.State.{State}
 use Rattle.repo_slice.specs.declared.wanting.Stage.{Stage}
 use Rattle.legal_history.specs.Histories.{Legal}
-use Rattle.legal_history.specs.Replays.{Standing, nothing_stands, replay, replayed_state, state_in}
+use Rattle.legal_history.specs.Replays.{Standing, messages_in, nothing_stands, replay, replayed_state, state_in}
 use Rattle.object_store.specs.Held.{IsNamedAt, IsNamedOf, IsWantedAt, held_in}
 use Rattle.object_store.specs.Repositories.{StandsKnown}
 use Rattle.object_store.specs.Stores.{StandsFor}
@@ -63,12 +66,13 @@ wanted_on (Some r) rid keyring items offer scope stage nodes legal h w =
     (subst (λ (state : State). IsWantedList (objects_of r.slice) keyring state offer scope stage nodes) h.state (w (stands_good r rid keyring items legal h)))
 
 -- a store whose repositories stay stands for the same
-pub stands_still : {D : Type 0} (old new : Store D) (rid : Rid) (items : List Item) → new.keyring ≡ old.keyring → new.history.entries.items ≡ old.history.entries.items
+pub stands_still : {D : Type 0} (old new : Store D) (rid : Rid) (items : List Item) → new.keyring ≡ old.keyring → new.table ≡ old.table → new.history.entries.items ≡ old.history.entries.items
     → ((q : Rid) → (q ≡ rid → ⊥) → get rid_cmp new.repositories q ≡ get rid_cmp old.repositories q) → get rid_cmp new.repositories rid ≡ get rid_cmp old.repositories rid
     → StandsFor old items → StandsFor new items
-stands_still old new rid items k e others same s = record {
+stands_still old new rid items k t e others same s = record {
   entries = e ∙ s.entries;
   each = each_still old.repositories new.repositories rid items s.each others same;
+  table = subst (λ (table : Table). IsTable (messages_in items) (kept_in table)) (sym t) s.table;
   legal = subst (λ (keyring : Contents). Legal keyring items) (sym k) s.legal;
 }
 

@@ -1,8 +1,9 @@
 -- What an entry that was prepared and written makes of a store.
-use Rattle.std.proofs.Common.{◌≡◌, ℕ, List, [], ◌∷◌, ◌++◌, Option, None, Ok, Err, sym, ap, subst, ◌∙◌, arith}
+use Rattle.std.proofs.Common.{◌≡◌, ℕ, List, [], ◌∷◌, ◌++◌, Option, None, Some, Ok, Err, sym, ap, subst, ◌∙◌, arith}
 use Rattle.std.specs.BTreeMap.{get}
 use Rattle.rad_base.specs.Order.{rid_cmp}
 use Rattle.rad_base.specs.declared.names.Rid.{Rid}
+use Rattle.announcements.specs.Held.{kept_in}
 use Rattle.ref_journal.specs.Holds.{CrashLeaves, Holds, LeavesDoubt, MendedMayHave}
 use Rattle.ref_journal.specs.declared.faults.AppendFault.TheVariants as faults
 use Rattle.ref_journal.specs.declared.journal.Journal.{Journal}
@@ -21,6 +22,7 @@ use Rattle.object_store.specs.Writes.{HasLetGo, HasWritten, IsWriteFault}
 use Rattle.object_store.specs.declared.store.Store.{Store}
 use Rattle.object_store.proofs.Moving.{entered, fault_left, nothing_done}
 use Rattle.object_store.proofs.Standing.{each_same, same_along, stands_idle}
+use Rattle.object_store.proofs.Tables.{IsSilent, table_more}
 
 -- a repository that is claimed is there
 pub there : {D : Type 0} (store : Store D) (rid : Rid) (caller : ℕ) → HasClaimed store rid caller → get rid_cmp store.repositories rid ≡ None → ⊥
@@ -32,6 +34,7 @@ there store rid caller c none =
 pub record Prepares {D : Type 0} (old mid : Store D) (rid : Rid) : Type 0 where
   pub journal : mid.journal ≡ old.journal
   pub keyring : mid.keyring ≡ old.keyring
+  pub table : mid.table ≡ old.table
   pub entries : mid.history.entries.items ≡ old.history.entries.items
   pub others : (q : Rid) → (q ≡ rid → ⊥) → get rid_cmp mid.repositories q ≡ get rid_cmp old.repositories q
   pub same : IsSame (get rid_cmp old.repositories rid) (get rid_cmp mid.repositories rid)
@@ -40,11 +43,11 @@ pub record Prepares {D : Type 0} (old mid : Store D) (rid : Rid) : Type 0 where
 pub prepared_nothing : {D : Type 0} (reads : D → Option (List ℕ)) (images : D → List ℕ → Type 0) (moment : D → ℕ) (since : D → ℕ → List ℕ → Type 0) (now : (disk : D) (image : List ℕ) → since disk (moment disk) image → images disk image) (old mid : Store D) (core : Core) (rid : Rid) → StandsFor old core.items → Prepares old mid rid
     → (IsIdle (get rid_cmp old.repositories rid) → IsIdle (get rid_cmp mid.repositories rid)) → Moves reads images moment since old mid core []
 prepared_nothing reads images moment since now old mid core rid s p idle =
-    nothing_done reads images moment since now old mid core s p.keyring p.entries p.journal
+    nothing_done reads images moment since now old mid core s p.keyring (ap kept_in p.table) p.entries p.journal
     (each_same old.repositories mid.repositories rid core.items s.each p.others p.same (idle (stands_idle (get rid_cmp old.repositories rid) rid core.items (s.each rid))))
 
 module _ {D : Type 0} (reads : D → Option (List ℕ)) (images : D → List ℕ → Type 0) (moment : D → ℕ) (since : D → ℕ → List ℕ → Type 0) (now : (disk : D) (image : List ℕ) → since disk (moment disk) image → images disk image) (old mid new : Store D) (core : Core) (rid : Rid) (s : StandsFor old core.items) (p : Prepares old mid rid)
-    (others : (q : Rid) → (q ≡ rid → ⊥) → get rid_cmp new.repositories q ≡ get rid_cmp mid.repositories q) (k : new.keyring ≡ mid.keyring) where
+    (others : (q : Rid) → (q ≡ rid → ⊥) → get rid_cmp new.repositories q ≡ get rid_cmp mid.repositories q) (k : new.keyring ≡ mid.keyring) (t : new.table ≡ mid.table) where
   -- what was let go of is as before
   kept : HasLetGo mid new rid → (q : Rid) → StandsKnown (get rid_cmp new.repositories q) q core.items
   kept gone =
@@ -56,7 +59,7 @@ module _ {D : Type 0} (reads : D → Option (List ℕ)) (images : D → List ℕ
       → (bodies : List (List ℕ)) (doubt : Option (List ℕ)) → Holds reads images old.journal bodies doubt → Q bodies doubt
   held_first Q f bodies doubt h = f bodies doubt (subst (λ (x : Journal D). Holds reads images x bodies doubt) (sym p.journal) h)
 
-  module _ (caller : ℕ) (item : Item) (durable : IsDurable item) (lawful : Lawful old.keyring core.items item) (body : List ℕ) (entry : Entry) (b : body ≡ body_of item) (en : entry ≡ entry_of item) where
+  module _ (caller : ℕ) (item : Item) (durable : IsDurable item) (silent : IsSilent item) (lawful : Lawful old.keyring core.items item) (body : List ℕ) (entry : Entry) (b : body ≡ body_of item) (en : entry ≡ entry_of item) where
     -- the moments were the same before
     timed_first : (P : List ℕ → List (List ℕ) → Option (List ℕ) → List ℕ → Type 0) → CrashLeaves reads images moment since mid.journal new.journal (P body)
         → CrashLeaves reads images moment since old.journal new.journal (P (body_of item))
@@ -69,21 +72,22 @@ module _ {D : Type 0} (reads : D → Option (List ℕ)) (images : D → List ℕ
         → Moves reads images moment since old new core (mends ∷ enters item ∷ [])
     wrote w each =
         entered reads images moment since now old new core s (k ∙ p.keyring) item durable lawful
+        (table_more (kept_in old.table) (kept_in new.table) core.items item silent (ap kept_in (t ∙ p.table)) s.table)
         (w.entries ∙ ap (λ (l : List Entry). l ++ entry ∷ []) p.entries ∙ ap (λ (x : Entry). old.history.entries.items ++ x ∷ []) en) each
         (held_first (λ (bodies : List (List ℕ)) (doubt : Option (List ℕ)). Holds reads images new.journal (bodies ++ body_of item ∷ []) None)
         (λ bodies doubt h. subst (λ (l : List ℕ). Holds reads images new.journal (bodies ++ l ∷ []) None) b (w.holds bodies doubt h)))
         (timed_first (λ (l : List ℕ). MendedMayHave {T = Unit {0}} (Ok tt) l) w.time)
 
     -- an entry that was not
-    pub not_wrote : (fault : KeepFault) → IsWriteFault reads images moment since mid new rid caller entry body fault → IsRefusedCall reads images moment since old new core rid caller item fault
+    pub not_wrote : (fault : KeepFault) → IsWriteFault reads images moment since mid new rid caller entry body fault → IsRefusedCall reads images moment since old new core (Some rid) caller item fault
     not_wrote DiskFault w =
-        fault_left reads images moment since now old new core s (k ∙ p.keyring) rid caller item w.in_doubt durable lawful
-        (w.entries ∙ ap (λ (l : List Entry). l ++ missed_entry entry rid caller w.in_doubt ∷ []) p.entries
-        ∙ ap (λ (x : Entry). old.history.entries.items ++ missed_entry x rid caller w.in_doubt ∷ []) en)
+        fault_left reads images moment since now old new core s (k ∙ p.keyring) (Some rid) caller item w.in_doubt durable lawful (ap kept_in (t ∙ p.table))
+        (w.entries ∙ ap (λ (l : List Entry). l ++ missed_entry entry (Some rid) caller w.in_doubt ∷ []) p.entries
+        ∙ ap (λ (x : Entry). old.history.entries.items ++ missed_entry x (Some rid) caller w.in_doubt ∷ []) en)
         (kept w.let_go)
         (held_first (λ (bodies : List (List ℕ)) (doubt : Option (List ℕ)). LeavesDoubt reads images bodies doubt (body_of item) new.journal (faults.DiskFault w.in_doubt))
         (λ bodies doubt h. subst (λ (l : List ℕ). LeavesDoubt reads images bodies doubt l new.journal (faults.DiskFault w.in_doubt)) b (w.left bodies doubt h)))
         (timed_first (λ (l : List ℕ). MendedMayHave {T = Unit {0}} (Err (faults.DiskFault w.in_doubt)) l) w.time)
-    not_wrote Full w = nothing_done reads images moment since now old new core s (k ∙ p.keyring) (w.entries ∙ p.entries) (w.journal ∙ p.journal) (kept w.let_go)
+    not_wrote Full w = nothing_done reads images moment since now old new core s (k ∙ p.keyring) (ap kept_in (t ∙ p.table)) (w.entries ∙ p.entries) (w.journal ∙ p.journal) (kept w.let_go)
     not_wrote (Changed change) w = absurd w
     not_wrote NoMemory w = absurd w

@@ -1,5 +1,5 @@
 -- What a refused call leaves of its entry.
-use Rattle.std.specs.Prelude.{ℕ, Bool, true, false, Some}
+use Rattle.std.specs.Prelude.{ℕ, Bool, true, false, Option}
 use Rattle.rad_base.specs.declared.names.Rid.{Rid}
 use Rattle.repo_entries.specs.declared.entry.Entry.{Entry}
 use Rattle.repo_entries.specs.declared.entry.Entry.TheVariants.{Claim, Put, Install, Heard}
@@ -21,6 +21,7 @@ abbrev pub left_if : Bool → Entry → Left
 left_if true entry = left_by entry
 left_if false entry = lefts.Nothing
 
--- the entry of a call for a repository that had this entry to write and met a fault of the disk
-abbrev pub missed_entry : Entry → Rid → ℕ → Bool → Entry
-missed_entry entry rid caller in_doubt = Missed (Some rid) (left_if in_doubt entry) caller
+-- the entry of a call, for a repository or for the announcements, that had this entry to write and
+-- met a fault of the disk
+abbrev pub missed_entry : Entry → Option Rid → ℕ → Bool → Entry
+missed_entry entry of caller in_doubt = Missed of (left_if in_doubt entry) caller

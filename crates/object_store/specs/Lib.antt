@@ -1,6 +1,7 @@
 pub mod Bodies
 pub mod Codes
 pub mod Entries
+pub mod Hearing
 pub mod Held
 pub mod Installs
 pub mod Opened

@@ -5,6 +5,8 @@ use Rattle.std.specs.List.{AllByRecursion}
 use Rattle.std.specs.BTreeMap.{get}
 use Rattle.rad_base.specs.declared.names.Rid.{Rid}
 use Rattle.rad_base.specs.Order.{rid_cmp}
+use Rattle.announcements.specs.Held.{kept_in}
+use Rattle.announcements.specs.Tables.{IsTable}
 use Rattle.keyring.specs.Contents.{Contents}
 use Rattle.ref_journal.specs.Frames.{gate_behind}
 use Rattle.ref_journal.specs.Holds.{Holds}
@@ -12,6 +14,7 @@ use Rattle.ref_journal.specs.declared.journal.Journal.{Journal}
 use Rattle.repo_entries.specs.Items.{Item, entry_of}
 use Rattle.entry_bodies.specs.Bodies.{HasBody, SpellsItem}
 use Rattle.legal_history.specs.Histories.{Lawful, Legal}
+use Rattle.legal_history.specs.Replays.{messages_in}
 use Rattle.object_store.specs.Bodies.{bodies_of}
 use Rattle.object_store.specs.Repositories.{StandsKnown}
 use Rattle.object_store.specs.declared.replayed.ReadFault.{ReadFault}
@@ -34,6 +37,7 @@ pub record HasReplayed (keyring : Contents) (read : Replayed) (items : List Item
   pub bodies : AllByRecursion HasBody items
   pub entries : read.history.entries.items ≡ map entry_of items
   pub each : (rid : Rid) → StandsKnown (get rid_cmp read.repositories rid) rid items
+  pub table : IsTable (messages_in items) (kept_in read.table)
   pub legal : Legal keyring items
 
 -- these entries were read: they stand, or the first that is not legal is known

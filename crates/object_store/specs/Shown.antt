@@ -4,7 +4,7 @@ use Rattle.std.specs.Option.{is_none}
 use Rattle.std.specs.Borrow.{Bor}
 use Rattle.rad_base.specs.Order.{RisesBy, rid_cmp}
 use Rattle.rad_base.specs.declared.names.Rid.{Rid}
-use Rattle.repo_entries.specs.Items.{Item, claim, put, install, missed, refused}
+use Rattle.repo_entries.specs.Items.{Item, claim, put, install, heard, missed, refused}
 use Rattle.repo_slice.specs.Slices.{objects_of, state_of}
 use Rattle.repo_slice.specs.declared.slice.Slice.{Slice}
 use Rattle.legal_history.specs.Replays.{nothing_stands, replay, replayed_state}
@@ -15,6 +15,7 @@ abbrev pub Concerns : Rid → Item → Type 0
 Concerns rid (claim of caller) = ⊥
 Concerns rid (put of batch caller) = of ≡ rid
 Concerns rid (install of id remotes caller) = of ≡ rid
+Concerns rid (heard message caller) = ⊥
 Concerns rid (missed of left caller) = ⊥
 Concerns rid (refused of why caller) = ⊥
 

@@ -1,5 +1,5 @@
 -- What writing an entry makes of a store.
-use Rattle.std.specs.Prelude.{◌≡◌, ℕ, Bool, List, [], ◌∷◌, ◌++◌, Option, None, Ok, Err}
+use Rattle.std.specs.Prelude.{◌≡◌, ℕ, Bool, List, [], ◌∷◌, ◌++◌, Option, None, Some, Ok, Err}
 use Rattle.std.specs.BTreeMap.{get}
 use Rattle.rad_base.specs.declared.names.Rid.{Rid}
 use Rattle.rad_base.specs.Order.{rid_cmp}
@@ -38,7 +38,7 @@ pub record HasMissed {D : Type 0} (reads : D → Option (List ℕ)) (images : D 
   pub let_go : HasLetGo old new rid
   pub in_doubt : Bool
   pub entries : new.history.entries.items ≡ old.history.entries.items
-      ++ missed_entry entry rid caller in_doubt ∷ []
+      ++ missed_entry entry (Some rid) caller in_doubt ∷ []
   pub left : (bodies : List (List ℕ)) (doubt : Option (List ℕ))
       → Holds reads images old.journal bodies doubt
       → LeavesDoubt reads images bodies doubt body new.journal (appends.DiskFault in_doubt)

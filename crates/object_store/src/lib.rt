@@ -2,6 +2,9 @@
 #![tactic(auto)]
 
 mod faults;
+mod hear;
+#[cfg(test)]
+mod hear_tests;
 mod install;
 mod laws;
 mod missed;

@@ -19,18 +19,15 @@ fn into_left(entry: Entry) -> Left
     }
 }
 
-// The entry of such a call for a repository that met a fault of the disk. It takes no memory.
-pub(crate) fn into_missed(entry: Entry, rid: &Rid, caller: u64, in_doubt: bool) -> Entry
-    ensures { result ≡ missed_entry entry rid.now caller in_doubt }
+// The entry of such a call, for a repository or for the announcements, that met a fault of the disk.
+// It takes no memory.
+pub(crate) fn into_missed(entry: Entry, of: Option<Rid>, caller: u64, in_doubt: bool) -> Entry
+    ensures { result ≡ missed_entry entry of caller in_doubt }
 {
     let left = if in_doubt {
         into_left(entry)
     } else {
         Left::Nothing
     };
-    Entry::Missed {
-        of: Some(*rid),
-        left,
-        caller,
-    }
+    Entry::Missed { of, left, caller }
 }

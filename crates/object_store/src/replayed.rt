@@ -4,14 +4,17 @@ ghost use Rattle.keyring.specs.Contents.{Contents};
 ghost use Rattle.rad_base.specs.Faults.{Rose};
 ghost use Rattle.ref_journal.specs.Holds.{Holds, OnlyReads};
 ghost use Rattle.repo_entries.specs.Batches.{AreContents, IsBatch, content_size};
-ghost use Rattle.repo_entries.specs.Items.{install, put};
+ghost use Rattle.repo_entries.specs.Items.{heard, install, put};
 ghost use Rattle.entry_bodies.specs.Bodies.{HasBody, item_in};
 ghost use Rattle.object_store.specs.Opens.{IsReading, IsReplay, TakesBehind, TakesOne};
 
+use crate::hear::heard_entry;
 use crate::install::{ensure_at, is_whole_advance, judge_at, stage_install_at};
 use crate::repository::{Repository, admit_at, stage_put_at};
+use announcements::{Heard, Table};
 use entry_bodies::{Body, read_body};
 use git_object::Kind;
+use gossip_wire::Message;
 use keyring::Keyring;
 use rad_base::{Bytes, NoMemory, Offer, Rid};
 use rad_outside::Disk;
@@ -35,6 +38,7 @@ pub(crate) enum ReadFault {
 #[derive(Drop)]
 pub(crate) struct Replayed {
     pub(crate) repositories: BTreeMap<Rid, Repository>,
+    pub(crate) table: Table,
     pub(crate) history: History,
     // The first entry that is not legal, counted from 1.
     pub(crate) illegal: Option<u64>,
@@ -116,6 +120,29 @@ impl Replayed {
         Ok(())
     }
 
+    // TakesBehind an announcement that was read, where all before it stand.
+    fn take_heard(
+        &mut self,
+        alloc: Global,
+        keyring: &Keyring,
+        message: &Message,
+    ) -> Result<(), NoMemory>
+        requires legal { self.old.illegal ≡ None }
+        requires body { HasBody (heard message.now 0) }
+        ensures { OnOk result (TakesBehind keyring.now self.old self.new (heard message.now 0)) }
+    {
+        self.history.make_room()?;
+        let entry = heard_entry(alloc, message, 0)?;
+        // No time is ahead of the last one, so no announcement is early.
+        let heard = self.table.hear(alloc, message, u64::MAX, keyring)?;
+        if !matches!(heard, Heard::Raised) {
+            self.illegal = Some(self.history.count() + 1);
+            return Ok(());
+        }
+        self.history.push(entry);
+        Ok(())
+    }
+
     // TakesBehind an entry that was read.
     fn take(&mut self, alloc: Global, keyring: &Keyring, body: Body) -> Result<(), NoMemory>
         requires body { HasBody (item_in body) }
@@ -128,6 +155,7 @@ impl Replayed {
         match body {
             Body::Put(rid, batch) => self.take_put(alloc, &rid, &batch),
             Body::Install(rid, offer) => self.take_install(alloc, keyring, &rid, offer),
+            Body::Heard(message) => self.take_heard(alloc, keyring, &message),
         }
     }
 }
@@ -148,6 +176,7 @@ pub(crate) fn read_all<D: Disk>(
 {
     let mut read = Replayed {
         repositories: BTreeMap::new(alloc),
+        table: Table::new(alloc),
         history: History::new(alloc),
         illegal: None,
     };

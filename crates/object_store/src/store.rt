@@ -31,6 +31,7 @@ use crate::repository::{Repository, admit_at, claim_at, stage_put_at, unstage_at
 use crate::shown::{is_bare, shown_names};
 use crate::wanted::{names_at, wants_at};
 use crate::{ClaimFault, StoreFault, Why};
+use announcements::Table;
 use canonical_head::answer::Head;
 use entry_bodies::{install_body, put_body};
 use fetch_wire::Request;
@@ -42,13 +43,15 @@ use repo_slice::{Batch, Entry, History, Judged, KeepFault, Scope, Slice, Stage, 
 use std::alloc::Global;
 use std::collections::BTreeMap;
 
-/// A store on a disk that it holds: its history, and what stands of each repository.
+/// A store on a disk that it holds: its history, what stands of each repository, and the table of
+/// the announcements that it heard.
 #[derive(Drop)]
 pub struct Store<D> {
-    journal: Journal<D>,
-    keyring: Keyring,
-    repositories: BTreeMap<Rid, Repository>,
-    history: History,
+    pub(crate) journal: Journal<D>,
+    pub(crate) keyring: Keyring,
+    pub(crate) repositories: BTreeMap<Rid, Repository>,
+    pub(crate) table: Table,
+    pub(crate) history: History,
 }
 
 // The body of a put in its frame.
@@ -126,6 +129,7 @@ impl<D: Disk> Store<D> {
                 journal,
                 keyring,
                 repositories: read.repositories,
+                table: read.table,
                 history: read.history,
             }),
             Err(ReadFault::DiskFault) => Err(fault(journal.close(), Why::DiskFault)),
@@ -197,6 +201,7 @@ impl<D: Disk> Store<D> {
     ) -> Result<Nids, KeepFault>
         ensures journal { self.new.journal ≡ self.old.journal }
         ensures keyring { self.new.keyring ≡ self.old.keyring }
+        ensures table { self.new.table ≡ self.old.table }
         ensures claims { KeepsClaims self.old self.new }
         ensures stands { (items : List Item) → StandsFor self.old items
             → StandsFor self.new items }
@@ -263,6 +268,7 @@ impl<D: Disk> Store<D> {
         requires { 1 ≤ caller }
         ensures journal { self.new.journal ≡ self.old.journal }
         ensures keyring { self.new.keyring ≡ self.old.keyring }
+        ensures table { self.new.table ≡ self.old.table }
         ensures claimed { OnOk result (HasClaimed self.new rid.now caller) }
         ensures claims { KeepsClaims self.old self.new }
         ensures events { (core : Core) → StandsFor self.old core.items
@@ -297,6 +303,7 @@ impl<D: Disk> Store<D> {
         ensures only_full { 2 ^ 40 < self.old.journal.end + 10 + put_size batch.now
             → IsErrOf result KeepFault.Full ⊎ IsErrOf result KeepFault.NoMemory }
         ensures keyring { self.new.keyring ≡ self.old.keyring }
+        ensures table { self.new.table ≡ self.old.table }
         ensures end { OnOk result
             (self.new.journal.end ≡ self.old.journal.end + 9 + put_size batch.now) }
         ensures end_stays { OnErr result (self.new.journal.end ≡ self.old.journal.end) }
@@ -330,6 +337,7 @@ impl<D: Disk> Store<D> {
             → Rose (D.faults self.old.journal.disk) (D.faults self.new.journal.disk) }
         ensures room { IfOk result (JournalHadRoom self.old.journal.end rid.now caller) }
         ensures keyring { self.new.keyring ≡ self.old.keyring }
+        ensures table { self.new.table ≡ self.old.table }
         ensures end { EndsBehind self.old.journal.end self.new.journal.end result }
         ensures claims { KeepsClaims self.old self.new }
         ensures events { (core : Core) → StandsFor self.old core.items
@@ -364,6 +372,7 @@ impl<D: Disk> Store<D> {
         requires { HasFew (get rid_cmp self.old.repositories rid.now) }
         ensures journal { self.new.journal ≡ self.old.journal }
         ensures keyring { self.new.keyring ≡ self.old.keyring }
+        ensures table { self.new.table ≡ self.old.table }
         ensures entries { self.new.history.entries.items ≡ self.old.history.entries.items }
         ensures others { (other : Rid) → other ≢ rid.now
             → get rid_cmp self.new.repositories other ≡ get rid_cmp self.old.repositories other }
@@ -390,6 +399,7 @@ impl<D: Disk> Store<D> {
         requires room { HasRoom self.old.history }
         ensures journal { self.new.journal ≡ self.old.journal }
         ensures keyring { self.new.keyring ≡ self.old.keyring }
+        ensures table { self.new.table ≡ self.old.table }
         ensures history { self.new.history ≡ self.old.history }
         ensures others { (other : Rid) → other ≢ rid.now
             → get rid_cmp self.new.repositories other ≡ get rid_cmp self.old.repositories other }
@@ -435,6 +445,7 @@ impl<D: Disk> Store<D> {
             (self.new.journal.end ≡ self.old.journal.end + 9 + length parcel.now) }
         ensures end_stays { OnErr result (self.new.journal.end ≡ self.old.journal.end) }
         ensures keyring { self.new.keyring ≡ self.old.keyring }
+        ensures table { self.new.table ≡ self.old.table }
         ensures others { (other : Rid) → other ≢ rid.now
             → get rid_cmp self.new.repositories other ≡ get rid_cmp self.old.repositories other }
         ensures wrote { OnOk result (HasWritten D.reads_as D.images D.moment D.images_since
@@ -454,7 +465,8 @@ impl<D: Disk> Store<D> {
             }
             Err(AppendFault::DiskFault { in_doubt }) => {
                 unstage_at(&mut self.repositories, rid);
-                self.history.push(into_missed(entry, rid, caller, in_doubt));
+                let missed = into_missed(entry, Some(*rid), caller, in_doubt);
+                self.history.push(missed);
                 Err(KeepFault::DiskFault)
             }
         }
@@ -471,6 +483,7 @@ impl<D: Disk> Store<D> {
         requires { IsBatch batch.now }
         ensures journal { self.new.journal ≡ self.old.journal }
         ensures keyring { self.new.keyring ≡ self.old.keyring }
+        ensures table { self.new.table ≡ self.old.table }
         ensures entries { self.new.history.entries.items ≡ self.old.history.entries.items }
         ensures others { (other : Rid) → other ≢ rid.now
             → get rid_cmp self.new.repositories other ≡ get rid_cmp self.old.repositories other }

@@ -8,7 +8,7 @@ use Rattle.rad_base.specs.declared.names.Rid.{Rid}
 use Rattle.commit_graph.specs.Objects.{Object, ObjectMap}
 use Rattle.keyring.specs.Contents.{Contents}
 use Rattle.ref_journal.specs.Moments.{HasBodies}
-use Rattle.repo_entries.specs.Items.{Item, claim, install, left_of, missed, put, refused}
+use Rattle.repo_entries.specs.Items.{Item, claim, heard, install, left_of, missed, put, refused}
 use Rattle.repo_entries.specs.declared.whole.Whole.{Whole}
 use Rattle.repo_slice.specs.Heads.{IsHeadOf}
 use Rattle.repo_slice.specs.Keeps.{Constants, Held, HeldBehind, ToldAlike, item_of}
@@ -46,6 +46,7 @@ body_unmissed : (item : Item) → HasBody item → IsUnmissed item
 body_unmissed (claim rid caller) has = tt
 body_unmissed (put rid batch caller) has = tt
 body_unmissed (install rid id remotes caller) has = tt
+body_unmissed (heard message caller) has = tt
 body_unmissed (missed of left caller) has = has
 body_unmissed (refused rid why caller) has = tt
 

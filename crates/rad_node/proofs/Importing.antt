@@ -9,7 +9,7 @@ use Rattle.ref_journal.specs.Frames.{gate_behind}
 use Rattle.ref_journal.specs.Holds.{LeavesOnlyBetween}
 use Rattle.ref_journal.specs.Images.{IsLeft}
 use Rattle.keyring.specs.Contents.{Contents}
-use Rattle.repo_entries.specs.Items.{Item, claim, install, missed, put, refused}
+use Rattle.repo_entries.specs.Items.{Item, claim, heard, install, missed, put, refused}
 use Rattle.repo_slice.specs.Keeps.{IsStopped}
 use Rattle.repo_slice.specs.declared.keep_fault.KeepFault.{KeepFault}
 use Rattle.repo_slice.specs.declared.keep_fault.KeepFault.TheVariants as fault
@@ -110,6 +110,7 @@ claimless_replay rid s [] = refl
 claimless_replay rid s (claim of caller ∷ items) = claimless_replay rid s items
 claimless_replay rid s (put of batch caller ∷ items) = claimless_replay rid (after_item rid s (put of batch caller)) items
 claimless_replay rid s (install of id remotes caller ∷ items) = claimless_replay rid (after_item rid s (install of id remotes caller)) items
+claimless_replay rid s (heard message caller ∷ items) = claimless_replay rid s items
 claimless_replay rid s (missed of left caller ∷ items) = claimless_replay rid s items
 claimless_replay rid s (refused of why caller ∷ items) = claimless_replay rid s items
 

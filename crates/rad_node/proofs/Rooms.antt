@@ -11,7 +11,7 @@ use Rattle.commit_graph.specs.Objects.{Object, ObjectMap}
 use Rattle.keyring.specs.Contents.{Contents}
 use Rattle.ref_journal.specs.Frames.{gate_behind, header, record_of, records}
 use Rattle.ref_journal.proofs.Records.{length-record_of, records-append}
-use Rattle.repo_entries.specs.Items.{Item, claim, install, missed, put, refused}
+use Rattle.repo_entries.specs.Items.{Item, claim, heard, install, missed, put, refused}
 use Rattle.repo_entries.specs.declared.whole.Whole.{Whole}
 use Rattle.repo_slice.specs.Keeps.{LacksRoom, item_of}
 use Rattle.repo_slice.specs.Outcomes.{advanced_in, if_advanced}
@@ -45,6 +45,7 @@ abbrev IsSized : Item → Type 0
 IsSized (claim rid caller) = Unit {0}
 IsSized (put rid batch caller) = IsOid rid.0
 IsSized (install rid id remotes caller) = IsOid rid.0 × IsOid id × AllByRecursion IsPair remotes
+IsSized (heard message caller) = Unit {0}
 IsSized (missed of left caller) = Unit {0}
 IsSized (refused rid why caller) = Unit {0}
 
@@ -68,6 +69,9 @@ fits_first end (install rid id remotes caller ∷ items) each within lacks =
     let first = first_record (body_of (install rid id remotes 0)) (bodies_of (durable_part items)) in
     let size = install_sized rid id remotes each.0.0.size each.0.1.size (remotes_sized remotes each.0.2) in
     lacks (omega (arith, within, first, size))
+fits_first end (heard message caller ∷ items) each within lacks =
+    let first = first_record (body_of (heard message 0)) (bodies_of (durable_part items)) in
+    lacks (omega (arith, within, first))
 fits_first end (missed of left caller ∷ items) each within lacks = lacks (omega (arith, within))
 fits_first end (refused rid why caller ∷ items) each within lacks = lacks (omega (arith, within))
 
@@ -140,6 +144,7 @@ items_stand rid s (put of batch caller ∷ items) has known =
     items_stand rid (after_item rid s (put of batch caller)) items has.1 (put_stands (is_same rid of) batch s known)
 items_stand rid s (install of commit remotes caller ∷ items) has known =
     items_stand rid (after_item rid s (install of commit remotes caller)) items has.1 (install_stands (is_same rid of) commit remotes s has.0.0.id known)
+items_stand rid s (heard message caller ∷ items) has known = items_stand rid s items has.1 known
 items_stand rid s (missed of left caller ∷ items) has known = absurd has.0
 items_stand rid s (refused of why caller ∷ items) has known = absurd has.0
 

@@ -14,7 +14,8 @@ use Rattle.commit_graph.specs.declared.fault.Changed.{Changed}
 use Rattle.commit_graph.specs.InMemory.{objects_in}
 use Rattle.commit_graph.specs.Objects.{Object, ObjectMap}
 use Rattle.repo_entries.specs.Batches.{content_size}
-use Rattle.repo_entries.specs.Items.{Item, claim, put, install, missed, refused, left_of}
+use Rattle.gossip_wire.specs.Messages.{message_text}
+use Rattle.repo_entries.specs.Items.{Item, claim, put, install, heard, missed, refused, left_of}
 use Rattle.repo_entries.specs.declared.entry.Left.{Left}
 use Rattle.repo_entries.specs.declared.entry.Left.TheVariants.{Nothing}
 use Rattle.repo_entries.specs.declared.whole.Whole.{Whole}
@@ -70,6 +71,7 @@ abbrev pub size_of : Item → ℕ
 size_of (claim rid caller) = 0
 size_of (put rid objects caller) = 25 + (5 * length objects + content_size objects)
 size_of (install rid id remotes caller) = 43 + 52 * length remotes
+size_of (heard message caller) = 1 + length (message_text message)
 size_of (missed of left caller) = 0
 size_of (refused rid why caller) = 0
 

@@ -243,7 +243,7 @@ module _ {D : Type 0} (reads : D → Option (List ℕ)) (images : D → List ℕ
 
     -- a refused call, from a core on
     pub missed_by : (IsOne : Item → Type 0) (core : Core) (item : Item) → Concerns rid item → IsOne item → StandsFor old core.items
-        → IsRefusedCall reads images moment since old new core rid caller item fault.DiskFault → (left : Left) × Names IsOne left × Missed core left
+        → IsRefusedCall reads images moment since old new core (Some rid) caller item fault.DiskFault → (left : Left) × Names IsOne left × Missed core left
     missed_by IsOne core item is one s (inl m) = (left_of item, inr (item, one, refl), missed_doubt core item is s m)
     missed_by IsOne core item is one s (inr (inl m)) = (lefts.Nothing, inl refl, missed_mended core s m)
     missed_by IsOne core item is one s (inr (inr m)) = (lefts.Nothing, inl refl, missed_only core s m)

@@ -1,7 +1,7 @@
 -- Entries without their claims.
 use Rattle.std.proofs.Common.{◌≡◌, List, [], ◌∷◌, ◌++◌, Some, refl, sym, ap, ◌∙◌}
 use Rattle.std.specs.List.{AllByRecursion}
-use Rattle.repo_entries.specs.Items.{Item, claim, install, left_of, missed, put, refused}
+use Rattle.repo_entries.specs.Items.{Item, claim, heard, install, left_of, missed, put, refused}
 use Rattle.legal_history.specs.Durable.{durable_part}
 use Rattle.store_keep.specs.Made.{IsLeftBy, IsQuiet, no_claims}
 
@@ -11,6 +11,7 @@ no_claims-append [] those = refl
 no_claims-append (claim r c ∷ items) those = no_claims-append items those
 no_claims-append (put r b c ∷ items) those = ap (λ (l : List Item). put r b c ∷ l) (no_claims-append items those)
 no_claims-append (install r i m c ∷ items) those = ap (λ (l : List Item). install r i m c ∷ l) (no_claims-append items those)
+no_claims-append (heard m c ∷ items) those = ap (λ (l : List Item). heard m c ∷ l) (no_claims-append items those)
 no_claims-append (missed q l c ∷ items) those = ap (λ (x : List Item). missed q l c ∷ x) (no_claims-append items those)
 no_claims-append (refused r w c ∷ items) those = ap (λ (l : List Item). refused r w c ∷ l) (no_claims-append items those)
 
@@ -20,6 +21,7 @@ no_claims_durable [] = refl
 no_claims_durable (claim r c ∷ items) = no_claims_durable items
 no_claims_durable (put r b c ∷ items) = ap (λ (l : List Item). put r b 0 ∷ l) (no_claims_durable items)
 no_claims_durable (install r i m c ∷ items) = ap (λ (l : List Item). install r i m 0 ∷ l) (no_claims_durable items)
+no_claims_durable (heard m c ∷ items) = ap (λ (l : List Item). heard m 0 ∷ l) (no_claims_durable items)
 no_claims_durable (missed q l c ∷ items) = no_claims_durable items
 no_claims_durable (refused r w c ∷ items) = no_claims_durable items
 
@@ -29,6 +31,7 @@ quiet_claimless [] q = tt
 quiet_claimless (claim r c ∷ items) q = quiet_claimless items q.1
 quiet_claimless (put r b c ∷ items) q = absurd q.0
 quiet_claimless (install r i m c ∷ items) q = absurd q.0
+quiet_claimless (heard m c ∷ items) q = absurd q.0
 quiet_claimless (missed o l c ∷ items) q = (q.0, quiet_claimless items q.1)
 quiet_claimless (refused r w c ∷ items) q = (tt, quiet_claimless items q.1)
 

@@ -6,7 +6,7 @@ use Rattle.std.proofs.lemmas.List.{append-nil, append_assoc}
 use Rattle.rad_base.specs.declared.names.Rid.{Rid}
 use Rattle.rad_base.proofs.Options.{some_is}
 use Rattle.keyring.specs.Contents.{Contents}
-use Rattle.repo_entries.specs.Items.{Item, claim, install, left_of, missed, put, refused}
+use Rattle.repo_entries.specs.Items.{Item, claim, heard, install, left_of, missed, put, refused}
 use Rattle.repo_entries.specs.declared.entry.Left.{Left}
 use Rattle.repo_entries.specs.declared.entry.Left.TheVariants.{Nothing}
 use Rattle.legal_history.specs.Cores.{Core, Event, Runs, Steps, claims, doubts, enters, grown, mends, misses, refuses}
@@ -101,6 +101,7 @@ durable_of : (rid : Rid) (item : Item) → Concerns rid item → IsDurable item
 durable_of rid (claim q c) h = absurd h
 durable_of rid (put q b c) h = tt
 durable_of rid (install q i r c) h = tt
+durable_of rid (heard m c) h = absurd h
 durable_of rid (missed q l c) h = absurd h
 durable_of rid (refused q w c) h = absurd h
 
@@ -108,6 +109,7 @@ no_claim : (rid : Rid) (item : Item) → Concerns rid item → IsNoClaim item ×
 no_claim rid (claim q c) h = absurd h
 no_claim rid (put q b c) h = (tt, refl)
 no_claim rid (install q i r c) h = (tt, refl)
+no_claim rid (heard m c) h = absurd h
 no_claim rid (missed q l c) h = absurd h
 no_claim rid (refused q w c) h = absurd h
 
@@ -115,6 +117,7 @@ only_of : (rid : Rid) (item : Item) → Concerns rid item → (q : Rid) → Conc
 only_of rid (claim p c) h q k = absurd h
 only_of rid (put p b c) h q k = sym k ∙ h
 only_of rid (install p i r c) h q k = sym k ∙ h
+only_of rid (heard m c) h q k = absurd h
 only_of rid (missed p l c) h q k = absurd h
 only_of rid (refused p w c) h q k = absurd h
 

@@ -8,7 +8,7 @@ use Rattle.ref_journal.specs.Moments.{HasBodies, MayHave}
 use Rattle.ref_journal.specs.Images.{IsLeft}
 use Rattle.ref_journal.proofs.Entering.{left_has}
 use Rattle.ref_journal.proofs.Lasting.{leaves_none}
-use Rattle.repo_entries.specs.Items.{Item, claim, install, missed, put, refused}
+use Rattle.repo_entries.specs.Items.{Item, claim, heard, install, missed, put, refused}
 use Rattle.entry_bodies.specs.Bodies.{HasBody, body_of}
 use Rattle.legal_history.specs.Cores.{Core}
 use Rattle.legal_history.specs.Durable.{durable_part, reopened}
@@ -86,6 +86,7 @@ read_claimless [] h = refl
 read_claimless (claim r c ∷ items) h = absurd h.0
 read_claimless (put r b c ∷ items) h = ap (λ (l : List Item). put r b c ∷ l) (read_claimless items h.1)
 read_claimless (install r i m c ∷ items) h = ap (λ (l : List Item). install r i m c ∷ l) (read_claimless items h.1)
+read_claimless (heard m c ∷ items) h = ap (λ (l : List Item). heard m c ∷ l) (read_claimless items h.1)
 read_claimless (missed q l c ∷ items) h = absurd h.0
 read_claimless (refused r w c ∷ items) h = absurd h.0
 
@@ -94,6 +95,7 @@ read_durable [] h = refl
 read_durable (claim r c ∷ items) h = absurd h.0
 read_durable (put r b c ∷ items) h = (λ i. put r b (sym h.0.1 i) ∷ read_durable items h.1 i)
 read_durable (install r i m c ∷ items) h = (λ t. install r i m (sym h.0.1 t) ∷ read_durable items h.1 t)
+read_durable (heard m c ∷ items) h = (λ t. heard m (sym h.0.1 t) ∷ read_durable items h.1 t)
 read_durable (missed q l c ∷ items) h = absurd h.0
 read_durable (refused r w c ∷ items) h = absurd h.0
 

@@ -5,7 +5,7 @@ use Rattle.rad_base.specs.declared.names.Rid.{Rid}
 use Rattle.keyring.specs.Contents.{Contents}
 use Rattle.ref_journal.specs.Holds.{LeavesOnlyBetween}
 use Rattle.ref_journal.specs.Moments.{HasBodies}
-use Rattle.repo_entries.specs.Items.{Item, claim, install, left_of, missed, put, refused}
+use Rattle.repo_entries.specs.Items.{Item, claim, heard, install, left_of, missed, put, refused}
 use Rattle.repo_entries.specs.declared.entry.Left.TheVariants.{Nothing}
 use Rattle.entry_bodies.specs.Bodies.{body_of}
 use Rattle.legal_history.specs.Cores.{Core}
@@ -22,6 +22,7 @@ no_claims [] = []
 no_claims (claim rid caller ∷ items) = no_claims items
 no_claims (put rid batch caller ∷ items) = put rid batch caller ∷ no_claims items
 no_claims (install rid id remotes caller ∷ items) = install rid id remotes caller ∷ no_claims items
+no_claims (heard message caller ∷ items) = heard message caller ∷ no_claims items
 no_claims (missed of left caller ∷ items) = missed of left caller ∷ no_claims items
 no_claims (refused rid why caller ∷ items) = refused rid why caller ∷ no_claims items
 
@@ -30,6 +31,7 @@ abbrev pub IsQuiet : Item → Type 0
 IsQuiet (claim rid caller) = Unit {0}
 IsQuiet (put rid batch caller) = ⊥
 IsQuiet (install rid id remotes caller) = ⊥
+IsQuiet (heard message caller) = ⊥
 IsQuiet (missed of left caller) = left ≡ Nothing
 IsQuiet (refused rid why caller) = Unit {0}
 

@@ -28,12 +28,12 @@ pub struct StoreKeep<D> {
 impl<D> Model for StoreKeep<D> {
     ghost use Rattle.std.specs.Coded.{codes};
     ghost use Rattle.keyring.specs.Contents.{coded_contents};
-    ghost use Rattle.object_store.specs.Codes.{coded_repositories};
+    ghost use Rattle.object_store.specs.Codes.{coded_places, coded_repositories};
     ghost use Rattle.store_keep.specs.Kept.{IsKept, Kept};
 
     ghost Value = { Kept D };
 
-    ghost coded = { Prim.hlevel (codes, coded_contents, coded_repositories) };
+    ghost coded = { Prim.hlevel (codes, coded_contents, coded_places, coded_repositories) };
 
     ghost view = { λ keep. record { store = keep.store; caller = keep.caller } };
 

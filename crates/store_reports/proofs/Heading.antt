@@ -8,7 +8,7 @@ use Rattle.std.proofs.lemmas.List.Elements.{filter-append}
 use Rattle.rad_base.specs.declared.names.Rid.{Rid}
 use Rattle.canonical_head.specs.declared.answer.Head.{Head}
 use Rattle.keyring.specs.Contents.{Contents}
-use Rattle.repo_entries.specs.Items.{Item, claim, install, missed, put, refused}
+use Rattle.repo_entries.specs.Items.{Item, claim, heard, install, missed, put, refused}
 use Rattle.repo_slice.specs.Heads.{IsHeadOf}
 use Rattle.legal_history.specs.Replays.{Standing, after_install, after_item, after_items, after_put, is_same, nothing_stands, replay, replayed_state}
 use Rattle.legal_history.proofs.GoodStandings.{same_is}
@@ -66,6 +66,7 @@ kept_identity rid s (install of id remotes caller) other = by_test (is_same rid 
     by_test : (b : Bool) → is_same rid of ≡ b → (if b then after_install id remotes s else s).id ≡ s.id
     by_test true e = absurd (other (sym (same_is rid of e)))
     by_test false e = refl
+kept_identity rid s (heard message caller) other = refl
 kept_identity rid s (missed of left caller) other = refl
 kept_identity rid s (refused of why caller) other = refl
 

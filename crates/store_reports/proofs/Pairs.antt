@@ -24,7 +24,7 @@ use Rattle.rad_base.proofs.Members.{filter_from, filter_has}
 use Rattle.git_object.specs.Names.{name}
 use Rattle.commit_graph.specs.InMemory.{objects_in}
 use Rattle.commit_graph.specs.Objects.{Object}
-use Rattle.repo_entries.specs.Items.{Item, claim, entry_of, install, missed, names_of, put, refused}
+use Rattle.repo_entries.specs.Items.{Item, claim, entry_of, heard, install, missed, names_of, put, refused}
 use Rattle.repo_entries.specs.declared.entry.Entry.{Entry}
 use Rattle.legal_history.specs.Durable.{durable_part}
 use Rattle.legal_history.specs.Replays.{Standing, after_install, after_item, after_items, after_put, is_same, nothing_stands, replay}
@@ -111,6 +111,7 @@ item_has rid oid s (install of id remotes caller) = by_test (is_same rid of)
     by_test : (b : Bool) → HasOne rid oid s [] (if b then after_install id remotes s else s)
     by_test true = same_one rid oid s
     by_test false = same_one rid oid s
+item_has rid oid s (heard message caller) = same_one rid oid s
 item_has rid oid s (missed of left caller) = same_one rid oid s
 item_has rid oid s (refused of why caller) = same_one rid oid s
 
@@ -200,6 +201,7 @@ durable_kept [] = refl
 durable_kept (claim rid caller ∷ items) = durable_kept items
 durable_kept (put rid batch caller ∷ items) = ap suc (durable_kept items)
 durable_kept (install rid id remotes caller ∷ items) = ap suc (durable_kept items)
+durable_kept (heard message caller ∷ items) = ap suc (durable_kept items)
 durable_kept (missed of left caller ∷ items) = durable_kept items
 durable_kept (refused rid why caller ∷ items) = durable_kept items
 

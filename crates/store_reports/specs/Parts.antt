@@ -65,6 +65,7 @@ AddsHeads keyring items rids old new =
 abbrev pub is_durable : Entry → Bool
 is_durable (entries.Put rid names caller) = true
 is_durable (entries.Install rid id remotes caller) = true
+is_durable (entries.Heard message caller) = true
 is_durable other = false
 
 -- a repository with each of some names

@@ -13,12 +13,13 @@ use Rattle.rad_base.specs.declared.names.Rid.{Rid}
 use Rattle.commit_graph.specs.Objects.{ObjectMap}
 use Rattle.canonical_head.specs.declared.answer.Head.{Head}
 use Rattle.keyring.specs.Contents.{Contents}
+use Rattle.announcements.specs.Tables.{HasCount, IsTable, Keeping}
 use Rattle.signed_refs.specs.Lines.{Line}
 use Rattle.signed_refs.specs.Said.{Says}
 use Rattle.repo_entries.specs.Items.{Item}
 use Rattle.repo_slice.specs.Heads.{IsHeadOf}
 use Rattle.legal_history.specs.Durable.{durable_part}
-use Rattle.legal_history.specs.Replays.{replay, replayed_state}
+use Rattle.legal_history.specs.Replays.{messages_in, replay, replayed_state}
 use Rattle.object_store.specs.Shown.{AreRisingRids, ShowsRepository}
 use Rattle.report_texts.specs.Stored.{ShownRepository, audit_text, generated_text, heads_text, show_text}
 use Rattle.report_texts.specs.declared.counts.Counts.{Counts}
@@ -84,6 +85,12 @@ pub record CountsObjects (items : List Item) (count : ℕ) : Type 0 where
   pub exact : (rid : Rid) (oid : Oid) → Contains pairs (rid, oid) ↔ IsSome ((replay rid items).objects oid)
   pub counted : count ≡ length pairs
 
+-- how many announcements are kept of those that were heard
+pub record CountsHeard (items : List Item) (count : ℕ) : Type 0 where
+  pub table : Keeping
+  pub is : IsTable (messages_in items) table
+  pub counted : HasCount table count
+
 -- the counts of a store: the entries are those that its journal has
 pub record AreCounts (items : List Item) (counts : Counts) : Type 0 where
   pub entries : counts.entries ≡ length (durable_part items)
@@ -92,7 +99,7 @@ pub record AreCounts (items : List Item) (counts : Counts) : Type 0 where
   pub repositories : counts.repositories ≡ length rids
   pub remotes : counts.remotes ≡ sum_by (remote_count items) rids
   pub objects : CountsObjects items counts.objects
-  pub announcements : counts.announcements ≡ 0
+  pub announcements : CountsHeard items counts.announcements
 
 -- the text of the counts
 pub record IsAuditReport (items : List Item) (text : List ℕ) : Type 0 where

@@ -15,7 +15,7 @@ use report_texts::{Counts, push_audit};
 use std::alloc::Global;
 
 /// What `audit` prints: the entries of the journal, the repositories, their remotes, the names of
-/// their objects, and no announcement. `NoMemory`: memory was refused.
+/// their objects, and the announcements that are kept. `NoMemory`: memory was refused.
 pub fn audit_report<D: Disk>(alloc: Global, store: &Store<D>) -> Result<Bytes, NoMemory>
     ensures { (items : List Item) → StandsFor store.now items
         → IfOk result (IsAuditReport items) }
@@ -27,8 +27,8 @@ pub fn audit_report<D: Disk>(alloc: Global, store: &Store<D>) -> Result<Bytes, N
 }
 
 /// What `audit` counts: the entries that the journal has, the repositories that a put or an
-/// install names, their remotes, and the names of their objects, each once for a repository.
-/// `NoMemory`: memory was refused.
+/// install names, their remotes, the names of their objects, each once for a repository, and the
+/// announcements that are kept. `NoMemory`: memory was refused.
 pub fn counts_of<D: Disk>(alloc: Global, store: &Store<D>) -> Result<Counts, NoMemory>
     ensures { (items : List Item) → StandsFor store.now items → IfOk result (AreCounts items) }
 {
@@ -40,7 +40,7 @@ pub fn counts_of<D: Disk>(alloc: Global, store: &Store<D>) -> Result<Counts, NoM
         repositories: named.len() as u128,
         remotes: count_remotes(store, named),
         objects: count_objects(alloc, entries)? as u128,
-        announcements: 0,
+        announcements: store.table().len() as u128,
     })
 }
 

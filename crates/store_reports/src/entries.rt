@@ -15,7 +15,10 @@ use std::collections::BTreeSet;
 fn is_kept(entry: &Entry) -> bool
     ensures { result ≡ is_durable entry.now }
 {
-    matches!(entry, Entry::Put { .. } | Entry::Install { .. })
+    matches!(
+        entry,
+        Entry::Put { .. } | Entry::Install { .. } | Entry::Heard { .. }
+    )
 }
 
 /// How many of the entries a journal has.

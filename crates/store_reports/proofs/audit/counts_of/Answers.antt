@@ -1,5 +1,8 @@
-use Rattle.std.proofs.Common.{◌≡◌, List, length, map, refl, ap, ◌∙◌}
+use Rattle.std.proofs.Common.{◌≡◌, List, length, map, ap, subst, ◌∙◌}
 use Rattle.std.specs.Prelude.{count_by, sum_by}
+use Rattle.announcements.specs.Held.{kept_in}
+use Rattle.announcements.specs.Tables.{HasCount}
+use Rattle.announcements.specs.declared.table.Table.{Table}
 use Rattle.repo_entries.specs.Items.{entry_of}
 use Rattle.repo_entries.specs.declared.entry.Entry.{Entry}
 use Rattle.store_reports.specs.Parts.{is_durable}
@@ -20,5 +23,9 @@ returns g c = λ items s.
       remotes = c.count_remotes.ensures items s (named_all items c.in_ok-rids.rids c.as_slice-named.result.now c.as_slice-named.ensures named)
           ∙ ap (sum_by (remote_count items)) c.as_slice-named.ensures;
       objects = c.in_ok-count_objects.ensures items e;
-      announcements = refl;
+      announcements = record {
+        table = kept_in c.args.store.now.table;
+        is = s.table;
+        counted = subst (λ (table : Table). HasCount (kept_in table) c.len.result) c.table.ensures c.len.ensures;
+      };
     }

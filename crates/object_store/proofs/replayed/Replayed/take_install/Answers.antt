@@ -1,4 +1,4 @@
-use Rattle.std.proofs.Common.{◌∙◌, ◌++◌, ◌∷◌, [], List, Option, ap, length, rules, subst, sym}
+use Rattle.std.proofs.Common.{◌∙◌, ◌++◌, ◌∷◌, [], List, Option, ap, length, refl, rules, subst, sym}
 use Rattle.std.specs.BTreeMap.{get}
 use Rattle.rad_base.specs.Order.{rid_cmp}
 use Rattle.repo_entries.specs.Items.{install}
@@ -27,7 +27,7 @@ returns c = λ items h.
     (subst (λ (r : Option Repository). IsThere c.args.rid.now (get rid_cmp c.args.self.now.repositories c.args.rid.now) r) (sym c.in_ok-verdict.ensures.same)
     c.in_ok-ensure_at.ensures.known)
     c.in_ok-entry.ensures.others c.in_ok-entry.ensures.same c.admit_at.ensures.others items h c.in_ok-entry.entry
-    (c.push.ensures ∙ ap (λ (l : List Entry). l ++ c.in_ok-entry.entry ∷ []) c.in_ok-make_room.ensures.same) c.requires.legal c.admit_at.ensures.admitted
+    (c.push.ensures ∙ ap (λ (l : List Entry). l ++ c.in_ok-entry.entry ∷ []) c.in_ok-make_room.ensures.same) refl c.requires.legal c.admit_at.ensures.admitted
     c.args.offer.id c.args.offer.remotes c.requires.body
     (may_install c.args.keyring.now c.args.rid.now items c.args.offer.id c.args.offer.remotes (get rid_cmp c.args.self.now.repositories c.args.rid.now)
     (get rid_cmp c.ensure_at.new.all c.args.rid.now) c.in_ok-verdict.verdict h.legal (h.each c.args.rid.now) c.in_ok-ensure_at.ensures.known c.in_ok-verdict.ensures.told

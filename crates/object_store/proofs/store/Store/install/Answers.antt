@@ -14,7 +14,7 @@ pub returns-in_err-judged-clause-events : goal.returns-in_err-judged-clause-even
 returns-in_err-judged-clause-events g c =
     let p = err_from_is_err_and c.from_residual.result c.from_residual.ensures.1 in
     rw (p.1, p.2) (λ core s.
-    judged_nothing g.D.Disk.reads_as g.D.Disk.images g.D.Disk.moment g.D.Disk.images_since g.met.D.Disk.only_now c.args.self.now c.judge.new.self core c.args.rid.now s c.in_err-judged.ensures.keyring c.in_err-judged.ensures.entries
+    judged_nothing g.D.Disk.reads_as g.D.Disk.images g.D.Disk.moment g.D.Disk.images_since g.met.D.Disk.only_now c.args.self.now c.judge.new.self core c.args.rid.now s c.in_err-judged.ensures.keyring c.in_err-judged.ensures.table c.in_err-judged.ensures.entries
     c.in_err-judged.ensures.journal c.in_err-judged.ensures.others c.in_err-judged.ensures.same)
 
 pub returns-in-Err-clause-events : goal.returns-in-Err-clause-events
@@ -24,13 +24,14 @@ returns-in-Err-clause-events g c = λ core s.
     (record {
       journal = c.in_ok-judged.ensures.journal;
       keyring = c.in_ok-judged.ensures.keyring;
+      table = c.in_ok-judged.ensures.table;
       entries = c.in_ok-judged.ensures.entries;
       others = c.in_ok-judged.ensures.others;
       same = c.in_ok-judged.ensures.same;
       told = c.in_ok-judged.ensures.told;
     })
-    (record { journal = c.judge.new.self.journal; keyring = c.judge.new.self.keyring; repositories = c.judge.new.self.repositories; history = c.push.new.self })
-    core c.in-Err.why c.in-Err.is s refl refl refl c.push.ensures
+    (record { journal = c.judge.new.self.journal; keyring = c.judge.new.self.keyring; repositories = c.judge.new.self.repositories; table = c.judge.new.self.table; history = c.push.new.self })
+    core c.in-Err.why c.in-Err.is s refl refl refl refl c.push.ensures
 
 pub prepare_install-requires-clause-few : goal.prepare_install-requires-clause-few
 prepare_install-requires-clause-few g c =
@@ -39,6 +40,7 @@ prepare_install-requires-clause-few g c =
     c.requires.claimed (record {
       journal = c.in_ok-judged.ensures.journal;
       keyring = c.in_ok-judged.ensures.keyring;
+      table = c.in_ok-judged.ensures.table;
       entries = c.in_ok-judged.ensures.entries;
       others = c.in_ok-judged.ensures.others;
       same = c.in_ok-judged.ensures.same;
@@ -49,7 +51,7 @@ pub returns-in_err-next-clause-events : goal.returns-in_err-next-clause-events
 returns-in_err-next-clause-events g c =
     let p = err_from_is_err_and c.from_residual-in_err-next.result c.from_residual-in_err-next.ensures.1 in
     rw (p.1, p.2) (λ core s.
-    judged_nothing g.D.Disk.reads_as g.D.Disk.images g.D.Disk.moment g.D.Disk.images_since g.met.D.Disk.only_now c.args.self.now c.judge.new.self core c.args.rid.now s c.in_ok-judged.ensures.keyring c.in_ok-judged.ensures.entries
+    judged_nothing g.D.Disk.reads_as g.D.Disk.images g.D.Disk.moment g.D.Disk.images_since g.met.D.Disk.only_now c.args.self.now c.judge.new.self core c.args.rid.now s c.in_ok-judged.ensures.keyring c.in_ok-judged.ensures.table c.in_ok-judged.ensures.entries
     c.in_ok-judged.ensures.journal c.in_ok-judged.ensures.others c.in_ok-judged.ensures.same)
 
 pub returns-in_err-entry-clause-events : goal.returns-in_err-entry-clause-events
@@ -61,6 +63,7 @@ returns-in_err-entry-clause-events g c =
     c.requires.claimed (record {
       journal = c.in_ok-judged.ensures.journal;
       keyring = c.in_ok-judged.ensures.keyring;
+      table = c.in_ok-judged.ensures.table;
       entries = c.in_ok-judged.ensures.entries;
       others = c.in_ok-judged.ensures.others;
       same = c.in_ok-judged.ensures.same;
@@ -69,6 +72,7 @@ returns-in_err-entry-clause-events g c =
     c.prepare_install.new.self (record {
       journal = c.in_err-entry.ensures.journal;
       keyring = c.in_err-entry.ensures.keyring;
+      table = c.in_err-entry.ensures.table;
       entries = ap (λ (h : History). h.entries.items) c.in_err-entry.ensures.history;
       others = c.in_err-entry.ensures.others;
       same = c.in_err-entry.ensures.same;
@@ -83,6 +87,7 @@ returns-in_err-write-clause-events g c =
     c.requires.claimed (record {
       journal = c.in_ok-judged.ensures.journal;
       keyring = c.in_ok-judged.ensures.keyring;
+      table = c.in_ok-judged.ensures.table;
       entries = c.in_ok-judged.ensures.entries;
       others = c.in_ok-judged.ensures.others;
       same = c.in_ok-judged.ensures.same;
@@ -91,10 +96,11 @@ returns-in_err-write-clause-events g c =
     c.prepare_install.new.self (record {
       journal = c.in_ok-entry.ensures.journal;
       keyring = c.in_ok-entry.ensures.keyring;
+      table = c.in_ok-entry.ensures.table;
       entries = ap (λ (h : History). h.entries.items) c.in_ok-entry.ensures.history;
       others = c.in_ok-entry.ensures.others;
       same = c.in_ok-entry.ensures.same;
-    }) c.write.new.self core s c.in_err-write.ensures.others c.in_err-write.ensures.keyring
+    }) c.write.new.self core s c.in_err-write.ensures.others c.in_err-write.ensures.keyring c.in_err-write.ensures.table
     c.in_ok-entry.parcel c.in_ok-entry.entry (rw (c.in_ok-next.ensures.next.0, c.in_ok-next.ensures.next.1) at c.in_ok-entry.ensures.parcel)
     (rw (c.in_ok-next.ensures.next.0, c.in_ok-next.ensures.next.1) at c.in_ok-entry.ensures.entry)
     (rw (c.in_ok-next.ensures.next.0, c.in_ok-next.ensures.next.1) at c.in_ok-entry.ensures.staged) c.in_err-write.field-0.0
@@ -106,6 +112,7 @@ returns-clause-events g c = λ core s.
     c.requires.claimed (record {
       journal = c.in_ok-judged.ensures.journal;
       keyring = c.in_ok-judged.ensures.keyring;
+      table = c.in_ok-judged.ensures.table;
       entries = c.in_ok-judged.ensures.entries;
       others = c.in_ok-judged.ensures.others;
       same = c.in_ok-judged.ensures.same;
@@ -114,10 +121,11 @@ returns-clause-events g c = λ core s.
     c.prepare_install.new.self (record {
       journal = c.in_ok-entry.ensures.journal;
       keyring = c.in_ok-entry.ensures.keyring;
+      table = c.in_ok-entry.ensures.table;
       entries = ap (λ (h : History). h.entries.items) c.in_ok-entry.ensures.history;
       others = c.in_ok-entry.ensures.others;
       same = c.in_ok-entry.ensures.same;
-    }) c.write.new.self core s c.in_ok-write.ensures.others c.in_ok-write.ensures.keyring
+    }) c.write.new.self core s c.in_ok-write.ensures.others c.in_ok-write.ensures.keyring c.in_ok-write.ensures.table
     c.in_ok-entry.parcel c.in_ok-entry.entry (rw (c.in_ok-next.ensures.next.0, c.in_ok-next.ensures.next.1) at c.in_ok-entry.ensures.parcel)
     (rw (c.in_ok-next.ensures.next.0, c.in_ok-next.ensures.next.1) at c.in_ok-entry.ensures.entry)
     (rw (c.in_ok-next.ensures.next.0, c.in_ok-next.ensures.next.1) at c.in_ok-entry.ensures.staged) c.in_ok-write.ensures.wrote

@@ -12,6 +12,7 @@ returns-in_err-entry-clause-events g c =
     (record {
       journal = c.in_err-entry.ensures.journal;
       keyring = c.in_err-entry.ensures.keyring;
+      table = c.in_err-entry.ensures.table;
       entries = c.in_err-entry.ensures.entries;
       others = c.in_err-entry.ensures.others;
       same = c.in_err-entry.ensures.same;
@@ -23,10 +24,11 @@ returns-clause-events g c = λ core s.
     (record {
       journal = c.in_ok-entry.ensures.journal;
       keyring = c.in_ok-entry.ensures.keyring;
+      table = c.in_ok-entry.ensures.table;
       entries = c.in_ok-entry.ensures.entries;
       others = c.in_ok-entry.ensures.others;
       same = c.in_ok-entry.ensures.same;
-    }) c.write.ensures.others c.write.ensures.keyring c.args.batch.now c.args.caller c.in_ok-entry.parcel c.in_ok-entry.entry c.requires.claimed c.requires.batch
+    }) c.write.ensures.others c.write.ensures.keyring c.write.ensures.table c.args.batch.now c.args.caller c.in_ok-entry.parcel c.in_ok-entry.entry c.requires.claimed c.requires.batch
     c.in_ok-entry.ensures.staged c.in_ok-entry.ensures.parcel c.in_ok-entry.ensures.entry c.write.result c.write.ensures.wrote c.write.ensures.fault
 
 pub returns-in_err-entry-clause-claims : goal.returns-in_err-entry-clause-claims

@@ -6,7 +6,7 @@ use Rattle.object_store.proofs.store.Store.wants.Goals as goal
 
 pub returns-in-Ok-clause-stands : goal.returns-in-Ok-clause-stands
 returns-in-Ok-clause-stands g c = λ items s.
-    stands_still c.args.self.now _ c.args.rid.now items refl refl c.in-Ok.ensures.others c.in-Ok.ensures.same s
+    stands_still c.args.self.now _ c.args.rid.now items refl refl refl c.in-Ok.ensures.others c.in-Ok.ensures.same s
 
 pub returns-in-Ok-clause-wanted : goal.returns-in-Ok-clause-wanted
 returns-in-Ok-clause-wanted g c = λ items s.
@@ -15,4 +15,4 @@ returns-in-Ok-clause-wanted g c = λ items s.
 
 pub returns-in-Err-clause-stands : goal.returns-in-Err-clause-stands
 returns-in-Err-clause-stands g c = λ items s.
-    stands_still c.args.self.now _ c.args.rid.now items refl refl c.in-Err.ensures.others c.in-Err.ensures.same s
+    stands_still c.args.self.now _ c.args.rid.now items refl refl refl c.in-Err.ensures.others c.in-Err.ensures.same s
