@@ -4,10 +4,7 @@ use Rattle.std.specs.Int.{to_be_bytes}
 use Rattle.commit_graph.specs.Objects.{Object}
 use Rattle.git_object.specs.declared.kind.Kind.{Kind}
 use Rattle.git_object.specs.declared.kind.Kind.TheVariants.{Blob, Tree, Commit, Tag}
-use Rattle.rad_base.specs.declared.names.Nid.{Nid}
-use Rattle.rad_base.specs.declared.names.Oid.{Oid}
-use Rattle.rad_base.specs.Sizes.{IsNid}
-use Rattle.rad_base.proofs.OneFront.{one_front, one_nid, one_oid}
+use Rattle.rad_base.proofs.OneFront.{one_front}
 use Rattle.fetch_wire.specs.Sections.{kind_byte}
 use Rattle.entry_bodies.specs.Bodies.{held_text}
 use Rattle.rad_base.proofs.BigEndian.{one_four}

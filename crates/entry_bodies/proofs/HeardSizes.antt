@@ -2,13 +2,12 @@
 use Rattle.std.proofs.Common.{◌≡◌, ℕ, ◌*◌, ◌+◌, ◌≤◌, List, [], ◌∷◌, ◌++◌, length, refl, arith, length-append}
 use Rattle.std.specs.Int.{to_be_bytes, w16, w64}
 use Rattle.std.specs.List.{AllByRecursion, flat_map}
-use Rattle.rad_base.specs.RemoteTexts.{IsPair, pair_text}
+use Rattle.rad_base.specs.RemoteTexts.{pair_text}
 use Rattle.rad_base.specs.declared.names.Nid.{Nid}
-use Rattle.rad_base.specs.declared.names.Oid.{Oid}
 use Rattle.rad_base.specs.declared.names.Rid.{Rid}
 use Rattle.rad_base.specs.declared.names.Sig.{Sig}
 use Rattle.gossip_wire.specs.Fields.{IsAddress, IsRid, about_text, addresses_text, inventory_text, refs_text, rid_text, sized}
-use Rattle.gossip_wire.specs.Messages.{IsSigned, message_text, signed_text}
+use Rattle.gossip_wire.specs.Messages.{IsSigned, signed_text}
 use Rattle.gossip_wire.specs.declared.message.Message.{Message}
 use Rattle.gossip_wire.specs.declared.message.Message.TheVariants.{Hello, Node, Inventory, Refs, Subscribe, Ping, Pong}
 use Rattle.announcements.specs.Announcements.{IsAnnouncement}

@@ -1,5 +1,5 @@
 -- What the readers of a body's parts answer.
-use Rattle.std.specs.Prelude.{◌≡◌, ℕ, List, ◌∷◌}
+use Rattle.std.specs.Prelude.{ℕ, List, ◌∷◌}
 use Rattle.repo_entries.specs.Items.{Item}
 use Rattle.entry_bodies.specs.Bodies.{SpellsItem, item_in}
 use Rattle.entry_bodies.specs.declared.body.Body.{Body}

@@ -1,16 +1,15 @@
 -- The durable part of a history.
-use Rattle.std.proofs.Common.{◌≡◌, ℕ, ◌≤◌, List, [], ◌∷◌, ◌++◌, length, refl, sym, ap, subst, ◌∙◌, arith, append_assoc}
+use Rattle.std.proofs.Common.{◌≡◌, ℕ, List, [], ◌∷◌, ◌++◌, refl, sym, ap, subst, ◌∙◌, append_assoc}
 use Rattle.std.proofs.lemmas.List.{append-nil}
 use Rattle.rad_base.specs.declared.names.Rid.{Rid}
 use Rattle.gossip_wire.specs.declared.message.Message.{Message}
 use Rattle.keyring.specs.Contents.{Contents}
 use Rattle.announcements.specs.Tables.{Surpasses}
 use Rattle.repo_entries.specs.Items.{Item, claim, heard, install, missed, put, refused}
-use Rattle.repo_entries.specs.declared.entry.Left.{Left}
 use Rattle.repo_entries.specs.declared.whole.Whole.{Whole}
 use Rattle.repo_slice.specs.Verdicts.{Allows}
 use Rattle.legal_history.specs.Durable.{IsDurable, durable_part, reopened}
-use Rattle.legal_history.specs.Histories.{Lawful, Legal, LegalFrom, MayHear, MayInstall}
+use Rattle.legal_history.specs.Histories.{Lawful, Legal, LegalFrom}
 use Rattle.legal_history.specs.Replays.{Standing, after_item, after_items, claimant, messages_in, nothing_stands, replay, state_in}
 
 -- the durable parts of two histories, one behind the other

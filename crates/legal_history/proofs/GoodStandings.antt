@@ -1,5 +1,5 @@
 -- What a legal history makes of a repository is good, and each commit of a remote advances from every earlier one.
-use Rattle.std.proofs.Common.{◌≡◌, ◌≢◌, ℕ, Bool, true, false, cond, List, [], ◌∷◌, ◌++◌, Option, None, Some, ◌⊎◌, inl, inr, refl, sym, ap, subst, ⊎_elim, ◌∙◌, append_assoc}
+use Rattle.std.proofs.Common.{◌≡◌, ◌≢◌, Bool, true, false, List, [], ◌∷◌, ◌++◌, Option, None, Some, ◌⊎◌, inl, inr, refl, sym, ap, subst, ⊎_elim, ◌∙◌, append_assoc}
 use Rattle.std.proofs.lemmas.List.{append-nil}
 use Rattle.std.specs.Prelude.{Contains, if◌then◌else◌}
 use Rattle.std.specs.List.{AllByRecursion}
@@ -15,14 +15,13 @@ use Rattle.rad_base.proofs.NameOrder.{equal_from_is_eq, oid_exact}
 use Rattle.rad_base.proofs.Options.{not_nothing, some_is}
 use Rattle.keyring.specs.Contents.{Contents}
 use Rattle.commit_graph.specs.Closures.{IsClosedCommit}
-use Rattle.commit_graph.specs.Histories.{InHistory}
 use Rattle.commit_graph.specs.InMemory.{objects_in}
 use Rattle.commit_graph.specs.Objects.{Grows, Object, ObjectMap}
 use Rattle.commit_graph.specs.Pairs.{as_commit}
 use Rattle.commit_graph.proofs.Growing.{closed_grows, history_grows, history_was}
 use Rattle.commit_graph.proofs.HistoryWalks.{history_along}
 use Rattle.repo_entries.specs.Items.{Item, claim, heard, install, missed, put, refused}
-use Rattle.repo_slice.specs.Good.{Advances, IsGood, IsSound}
+use Rattle.repo_slice.specs.Good.{Advances, IsGood}
 use Rattle.repo_slice.specs.Standing.{Replaces, replaced}
 use Rattle.repo_slice.specs.Verdicts.{Allows, IsIdOutcome, IsNextState}
 use Rattle.repo_slice.specs.declared.scope.Scope.TheVariants.{All}
@@ -34,7 +33,7 @@ use Rattle.repo_slice.proofs.NextStates.{next_good, replaced_advances}
 use Rattle.repo_slice.proofs.Replacing.{replaced_replaces}
 use Rattle.legal_history.specs.Advancing.{AdvanceAll, commits_of, with_commit}
 use Rattle.legal_history.specs.Histories.{Lawful, Legal, LegalFrom, MayInstall}
-use Rattle.legal_history.specs.Replays.{Standing, after_install, after_item, after_items, after_put, is_same, nothing_stands, replay, replayed_state, state_in, with_objects}
+use Rattle.legal_history.specs.Replays.{Standing, after_install, after_item, after_items, after_put, is_same, nothing_stands, replay, state_in, with_objects}
 
 -- ---- replays
 

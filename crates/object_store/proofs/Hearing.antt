@@ -1,5 +1,5 @@
 -- What hearing an announcement makes of a store.
-use Rattle.std.proofs.Common.{◌≡◌, ℕ, ◌+◌, ◌≤◌, ◌<◌, ◌^◌, Bool, true, false, if◌then◌else◌, List, [], ◌∷◌, ◌++◌, Option, None, Result, Ok, Err, refl, sym, ap, subst, ◌∙◌, arith}
+use Rattle.std.proofs.Common.{◌≡◌, ℕ, ◌+◌, ◌≤◌, ◌<◌, ◌^◌, Bool, true, false, if◌then◌else◌, List, [], ◌∷◌, ◌++◌, Option, None, Ok, Err, refl, sym, ap, subst, ◌∙◌, arith}
 use Rattle.std.specs.Prelude.{IsTrue}
 use Rattle.std.specs.BTreeMap.{BTreeMap, get}
 use Rattle.std.proofs.lemmas.Bool.{le-ltb}
@@ -24,7 +24,7 @@ use Rattle.repo_entries.specs.declared.entry.Entry.TheVariants as entries
 use Rattle.repo_slice.specs.declared.keep_fault.KeepFault.{KeepFault}
 use Rattle.repo_slice.specs.declared.keep_fault.KeepFault.TheVariants.{DiskFault, Full, Changed, NoMemory}
 use Rattle.entry_bodies.specs.Bodies.{HasBody, heard_text}
-use Rattle.legal_history.specs.Cores.{Core, enters, mends}
+use Rattle.legal_history.specs.Cores.{Core}
 use Rattle.legal_history.specs.Histories.{Lawful, MayHear}
 use Rattle.legal_history.specs.Replays.{messages_in}
 use Rattle.object_store.specs.Entries.{missed_entry}

@@ -13,10 +13,10 @@ use Rattle.identity_doc.specs.IdentityChains.{HasIdentity}
 use Rattle.repo_entries.specs.Items.{Item}
 use Rattle.fetch_wire.specs.declared.request.Request.{Request}
 use Rattle.fetch_serve.specs.Good.{IsGood as IsGoodShown}
-use Rattle.fetch_serve.specs.Replies.{refusal_text, rid_of}
+use Rattle.fetch_serve.specs.Replies.{rid_of}
 use Rattle.fetch_serve.specs.Showings.{showing}
 use Rattle.repo_slice.specs.Good.{IsGood}
-use Rattle.repo_slice.specs.Slices.{objects_of, state_of}
+use Rattle.repo_slice.specs.Slices.{objects_of}
 use Rattle.repo_slice.specs.declared.state.State.{State}
 use Rattle.legal_history.specs.Histories.{Legal}
 use Rattle.legal_history.specs.Replays.{AreShort, Standing, replay, replayed_state}
@@ -24,7 +24,7 @@ use Rattle.legal_history.proofs.GoodStandings.{legal_is_good}
 use Rattle.legal_history.proofs.ShortContents.{legal_short}
 use Rattle.object_store.specs.Installs.{HasFew}
 use Rattle.object_store.specs.Replied.{IsGoodWith, IsReplyAbout, IsReplyBy, IsReplyOf, IsReplyOn, IsReplyWith, asked_in}
-use Rattle.object_store.specs.Repositories.{StandsAs, StandsKnown}
+use Rattle.object_store.specs.Repositories.{StandsKnown}
 use Rattle.object_store.specs.Stores.{StandsFor, StandsForSome}
 use Rattle.object_store.specs.declared.repository.Repository.{Repository}
 use Rattle.object_store.specs.declared.store.Store.{Store}

@@ -1,4 +1,4 @@
-use Rattle.std.proofs.Common.{◌≡◌, [], List, ℕ, length, ap, arith, rules}
+use Rattle.std.proofs.Common.{◌≡◌, arith}
 use Rattle.entry_bodies.proofs.ReadSoFar.{no_objects, objects_not_all}
 use Rattle.entry_bodies.proofs.lists.objects_in.Goals as goal
 

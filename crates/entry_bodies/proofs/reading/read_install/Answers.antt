@@ -1,4 +1,4 @@
-use Rattle.std.proofs.Common.{◌≡◌, ◌++◌, List, ℕ, ap, ◌∙◌, arith, rules}
+use Rattle.std.proofs.Common.{◌++◌, List, ℕ, ap, ◌∙◌, arith}
 use Rattle.entry_bodies.proofs.Bodies.{no_install}
 use Rattle.entry_bodies.proofs.reading.read_install.Goals as goal
 

@@ -1,5 +1,4 @@
-use Rattle.std.proofs.Common.{◌≡◌, ◌++◌, List, ℕ, ap, ◌∙◌, arith, rules}
-use Rattle.std.specs.Int.{to_be_bytes, w32}
+use Rattle.std.proofs.Common.{◌++◌, List, ℕ, ap, ◌∙◌, arith}
 use Rattle.entry_bodies.proofs.Bodies.{no_put}
 use Rattle.entry_bodies.proofs.reading.read_put.Goals as goal
 use Rattle.entry_bodies.proofs.reading.read_put.Goals.{then-count-lt1-via-then-count-lt1, then-count-lt1-via-else-count-lt1+then-count-gt-MOST_OBJECTS}

@@ -1,4 +1,4 @@
-use Rattle.std.proofs.Common.{◌≡◌, ◌≤◌, List, ℕ, length, subst, sym, ◌∙◌}
+use Rattle.std.proofs.Common.{◌≤◌, List, ℕ, length, subst, sym, ◌∙◌}
 use Rattle.entry_bodies.proofs.HeardSizes.{heard_fits}
 use Rattle.entry_bodies.proofs.writing.heard_body.Goals as goal
 

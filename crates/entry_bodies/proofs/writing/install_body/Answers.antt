@@ -1,9 +1,5 @@
-use Rattle.std.proofs.Common.{◌≡◌, ◌≤◌, ◌*◌, List, ℕ, length, ap, subst, sym, ◌∙◌, arith}
-use Rattle.rad_base.specs.declared.names.Nid.{Nid}
-use Rattle.rad_base.specs.declared.names.Oid.{Oid}
-use Rattle.std.specs.List.{flat_map}
-use Rattle.rad_base.specs.RemoteTexts.{pair_text}
-use Rattle.entry_bodies.specs.Bodies.{install_size, install_text}
+use Rattle.std.proofs.Common.{◌≡◌, ◌≤◌, List, ℕ, length, ap, subst, sym, ◌∙◌, arith}
+use Rattle.entry_bodies.specs.Bodies.{install_size}
 use Rattle.entry_bodies.proofs.Bodies.{install_fits, install_sized}
 use Rattle.entry_bodies.proofs.writing.install_body.Goals as goal
 

@@ -1,6 +1,5 @@
 use Rattle.std.proofs.Common.{◌≡◌, ◌∙◌, ◌++◌, ◌∷◌, [], List, ap, length, refl, rules}
 use Rattle.announcements.specs.Held.{kept_in}
-use Rattle.announcements.specs.Tables.{answer}
 use Rattle.announcements.specs.declared.heard.Heard.TheVariants.{Raised}
 use Rattle.repo_entries.specs.Items.{heard}
 use Rattle.repo_entries.specs.declared.entry.Entry.{Entry}

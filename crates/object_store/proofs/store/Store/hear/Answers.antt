@@ -1,7 +1,7 @@
 use Rattle.std.proofs.Common.{◌≡◌, ◌∙◌, rules, sym, subst}
 use Rattle.std.proofs.lemmas.Result.{err_from_is_err_and}
 use Rattle.announcements.specs.Announcements.{kept_of, key_of}
-use Rattle.announcements.specs.Held.{IsStaged, Stages, kept_in}
+use Rattle.announcements.specs.Held.{Stages, kept_in}
 use Rattle.announcements.specs.Tables.{Keeps, Keeping}
 use Rattle.announcements.specs.declared.heard.Heard.{Heard}
 use Rattle.announcements.specs.declared.heard.Heard.TheVariants.{Raised}
