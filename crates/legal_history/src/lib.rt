@@ -1,5 +1,5 @@
-//! Legal histories of a store: what a list of entries makes of its repositories, which lists are
-//! legal, and what may happen to a history and to the entry that is in doubt.
+//! Legal histories of a store: what a list of entries makes of its repositories and what it heard,
+//! which lists are legal, and what may happen to a history and to the entry that is in doubt.
 #![tactic(auto)]
 
 mod laws;

@@ -74,9 +74,9 @@ pub record Moves {D : Type 0} (reads : D → Option (List ℕ)) (images : D → 
       → LeavesOnlyBetween moment since old.journal.disk new.journal.disk
       (IsLeftDuring old.keyring core events)
 
--- The events of a refused call, for a repository or for the announcements, that had this entry to write. A fault of the disk leaves it in
--- doubt, behind a mend; or leaves nothing new, with a mend before it or without one. Else nothing
--- happens.
+-- The events of a refused call, for a repository or for the announcements, that had this entry to
+-- write. A fault of the disk leaves it in doubt, behind a mend; or leaves nothing new, with a mend
+-- before it or without one. Else nothing happens.
 abbrev pub IsRefusedCall : {D : Type 0} → (D → Option (List ℕ)) → (D → List ℕ → Type 0) → (D → ℕ)
     → (D → ℕ → List ℕ → Type 0) → Store D → Store D → Core → Option Rid → ℕ → Item → KeepFault → Type 0
 IsRefusedCall reads images moment since old new core of caller item keeps.DiskFault =

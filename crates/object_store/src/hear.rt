@@ -1,5 +1,6 @@
 // Hearing announcements.
-ghost use Rattle.std.specs.Prelude.{◌≡◌, ◌↔◌, ◌≤◌, ◌<◌, ◌+◌, ◌^◌, List, length, IfErr, IfOk};
+ghost use Rattle.std.specs.Prelude.{◌≡◌, ◌≢◌, ◌↔◌, ◌⊎◌, ◌≤◌, ◌<◌, ◌+◌, ◌^◌, List, length};
+ghost use Rattle.std.specs.Prelude.{IfErr, IfOk};
 ghost use Rattle.std.specs.Prelude.{IsErrOf, OnErr, OnOk};
 ghost use Rattle.rad_base.specs.Faults.{Rose};
 ghost use Rattle.gossip_wire.specs.Messages.{message_text};
@@ -72,6 +73,11 @@ impl<D: Disk> Store<D> {
             → 2 ^ 40 < self.old.journal.end + 10 + heard_size message.now }
         ensures room { IfOk result (λ heard. heard ≡ Heard.Raised
             → self.old.journal.end + 10 + heard_size message.now ≤ 2 ^ 40) }
+        ensures only_full { answered_by self.old now message.now ≡ Heard.Raised
+            → 2 ^ 40 < self.old.journal.end + 10 + heard_size message.now
+            → IsErrOf result KeepFault.Full ⊎ IsErrOf result KeepFault.NoMemory }
+        ensures only_raised { IfOk result (λ heard. heard ≢ Heard.Raised
+            → self.new.journal ≡ self.old.journal) }
         ensures told { IfOk result (λ heard. heard ≡ answered_by self.old now message.now) }
         ensures keyring { self.new.keyring ≡ self.old.keyring }
         ensures repositories { self.new.repositories ≡ self.old.repositories }

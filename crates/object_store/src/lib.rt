@@ -1,4 +1,5 @@
-//! A store of repositories over a journal: what stands in it is the replay of a legal history.
+//! A store of repositories and of announcements over a journal: what stands in it is the replay of
+//! a legal history.
 #![tactic(auto)]
 
 mod faults;

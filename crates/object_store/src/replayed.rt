@@ -73,7 +73,7 @@ fn is_batch(batch: &Batch) -> bool
 }
 
 impl Replayed {
-    // TakesBehind a put that was read, where all before it stand.
+    // Takes a put that was read, where all before it stand.
     fn take_put(&mut self, alloc: Global, rid: &Rid, batch: &Batch) -> Result<(), NoMemory>
         requires legal { self.old.illegal ≡ None }
         requires body { HasBody (put rid.now batch.now 0) }
@@ -92,7 +92,7 @@ impl Replayed {
         Ok(())
     }
 
-    // TakesBehind an install that was read, where all before it stand.
+    // Takes an install that was read, where all before it stand.
     fn take_install(
         &mut self,
         alloc: Global,
@@ -120,7 +120,7 @@ impl Replayed {
         Ok(())
     }
 
-    // TakesBehind an announcement that was read, where all before it stand.
+    // Takes an announcement that was read, where all before it stand.
     fn take_heard(
         &mut self,
         alloc: Global,
@@ -143,7 +143,7 @@ impl Replayed {
         Ok(())
     }
 
-    // TakesBehind an entry that was read.
+    // Takes an entry that was read.
     fn take(&mut self, alloc: Global, keyring: &Keyring, body: Body) -> Result<(), NoMemory>
         requires body { HasBody (item_in body) }
         requires replay { IsReplay keyring.now self.old }
