@@ -1,67 +1,43 @@
 -- Routes with nodes added.
 use Rattle.std.proofs.Common.{◌≡◌, Bool, true, false, cond, Option, Some, None, List, [], ◌∷◌, ◌++◌, refl, sym, ap, subst, inl, inr, ◌⊎◌, ⊎_elim, ◌∙◌, ◌↔◌}
 use Rattle.std.specs.Prelude.{Contains, IsTrue, IsSome, option_map}
-use Rattle.std.specs.BTreeMap.{get, is_at}
-use Rattle.std.specs.BTreeSet.{BTreeSet, IsEmpty, contains}
-use Rattle.std.specs.Option.{option_map_or}
-use Rattle.std.proofs.lemmas.Bool.{cases_Bool, false≢true}
+use Rattle.std.specs.BTreeMap.{is_at}
+use Rattle.std.specs.BTreeSet.{contains}
+use Rattle.std.proofs.lemmas.Bool.{false≢true}
 use Rattle.std.proofs.lemmas.List.Elements.{Contains-push, Contains-push_cases, Contains-append_left}
 use Rattle.rad_base.proofs.Members.{contains_nothing}
-use Rattle.rad_base.proofs.Options.{not_nothing, one_value}
-use Rattle.rad_base.specs.Order.{nid_cmp, rid_cmp}
+use Rattle.rad_base.proofs.Options.{not_nothing, one_value, some_is}
 use Rattle.rad_base.specs.declared.names.Nid.{Nid}
 use Rattle.rad_base.specs.declared.names.Rid.{Rid}
 use Rattle.announcements.specs.Held.{HaveInventories, inventory_key, inventory_of}
 use Rattle.announcements.specs.declared.kept.Kept.{Kept}
 use Rattle.announcements.specs.Tables.{Keeping}
-use Rattle.routing.specs.RoutesOf.{AreRoutes, Names, has_route}
+use Rattle.routing.specs.RoutesOf.{AreRoutes, Names, has_route, pair_cmp}
 use Rattle.routing.specs.declared.routes.Routes.{Routes}
-use Rattle.routing.proofs.RidOrder.{nid_itself, one_nid, one_rid, rid_itself}
+use Rattle.routing.proofs.PairOrder.{Pair, one_pair, one_pair_at, pair_itself}
 
 -- a node is added for a repository
 abbrev pub Adds : Routes → Rid → Nid → Routes → Type 0
 Adds old rid node new = (r : Rid) (n : Nid) → IsTrue (has_route new r n)
     ↔ (IsTrue (has_route old r n) ⊎ ((r ≡ rid) × (n ≡ node)))
 
-module _ (old mid new : Routes) (rid : Rid) (node : Nid) (before after : BTreeSet Nid)
-    (was : (n : Nid) → contains nid_cmp before n ≡ has_route old rid n)
-    (added : (n : Nid) → contains nid_cmp after n ≡ cond (is_at (nid_cmp node) n) true (contains nid_cmp before n))
-    (taken : (r : Rid) → get rid_cmp mid.nodes r ≡ cond (is_at (rid_cmp rid) r) None (get rid_cmp old.nodes r))
-    (put : (r : Rid) → get rid_cmp new.nodes r ≡ cond (is_at (rid_cmp rid) r) (Some after) (get rid_cmp mid.nodes r)) where
-  at_rid : (r : Rid) (n : Nid) → is_at (rid_cmp rid) r ≡ true
-      → has_route new r n ≡ cond (is_at (nid_cmp node) n) true (has_route old r n)
-  at_rid r n b =
-      ap (λ (o : Option (BTreeSet Nid)). option_map_or (λ s. contains nid_cmp s n) o false)
-      (put r ∙ ap (λ (t : Bool). cond t (Some after) (get rid_cmp mid.nodes r)) b)
-      ∙ added n ∙ ap (λ (t : Bool). cond (is_at (nid_cmp node) n) true t) (was n ∙ ap (λ (x : Rid). has_route old x n) (one_rid rid r b))
-
-  off_rid : (r : Rid) (n : Nid) → is_at (rid_cmp rid) r ≡ false → has_route new r n ≡ has_route old r n
-  off_rid r n b =
-      ap (λ (o : Option (BTreeSet Nid)). option_map_or (λ s. contains nid_cmp s n) o false)
-      (put r ∙ ap (λ (t : Bool). cond t (Some after) (get rid_cmp mid.nodes r)) b
-      ∙ taken r ∙ ap (λ (t : Bool). cond t None (get rid_cmp old.nodes r)) b)
-
-  added_here : (r : Rid) (n : Nid) → is_at (rid_cmp rid) r ≡ true → (c : Bool) → is_at (nid_cmp node) n ≡ c
-      → cond c true (has_route old r n) ≡ true → IsTrue (has_route old r n) ⊎ ((r ≡ rid) × (n ≡ node))
-  added_here r n b true e h = inr (sym (one_rid rid r b), sym (one_nid node n e))
-  added_here r n b false e h = inl h
-
-  either : (c t : Bool) → t ≡ true → cond c true t ≡ true
-  either true t h = refl
-  either false t h = h
-
-  pub route_added : Adds old rid node new
-  route_added r n = ⊎_elim
-      (λ b. (
-        λ h. added_here r n b (is_at (nid_cmp node) n) refl (sym (at_rid r n b) ∙ h),
-        λ s. at_rid r n b ∙ ⊎_elim (λ a. either (is_at (nid_cmp node) n) (has_route old r n) a)
-            (λ a. ap (λ (t : Bool). cond t true (has_route old r n)) (nid_itself node n a.1)) s,
-      ))
-      (λ b. (
-        λ h. inl (sym (off_rid r n b) ∙ h),
-        λ s. off_rid r n b ∙ ⊎_elim (λ a. a) (λ a. absurd (false≢true (sym b ∙ rid_itself rid r a.0))) s,
-      ))
-      (cases_Bool (is_at (rid_cmp rid) r))
+pub route_added : (old new : Routes) (rid : Rid) (node : Nid)
+    → ((q : Pair) → contains pair_cmp new.pairs q ≡ cond (is_at (pair_cmp (rid, Some node)) q) true (contains pair_cmp old.pairs q)) → Adds old rid node new
+route_added old new rid node put r n = by_test (is_at (pair_cmp (rid, Some node)) (r, Some n)) refl
+  where
+    by_test : (b : Bool) → is_at (pair_cmp (rid, Some node)) (r, Some n) ≡ b
+        → IsTrue (has_route new r n) ↔ (IsTrue (has_route old r n) ⊎ ((r ≡ rid) × (n ≡ node)))
+    by_test true e =
+        let is = one_pair_at (rid, Some node) (r, Some n) e in (
+          λ h. inr (sym (ap (λ (p : Pair). p.0) is), sym (some_is node n (ap (λ (p : Pair). p.1) is))),
+          λ s. put (r, Some n) ∙ ap (λ (t : Bool). cond t true (has_route old r n)) e,
+        )
+    by_test false e =
+        let same : has_route new r n ≡ has_route old r n = put (r, Some n) ∙ ap (λ (t : Bool). cond t true (has_route old r n)) e in (
+          λ h. inl (sym same ∙ h),
+          λ s. same ∙ ⊎_elim (λ a. a)
+              (λ a. absurd (false≢true (sym e ∙ pair_itself (rid, Some node) (r, Some n) (one_pair (r, Some n) rid (Some node) a.0 (ap (λ (x : Nid). Some x) a.1))))) s,
+        )
 
 -- a node is added for some repositories
 abbrev pub AddsAll : Routes → Nid → List Rid → Routes → Type 0
@@ -120,10 +96,6 @@ of_same table nodes more node routes e none h r n =
         a.1,
       ),
     )
-
--- an empty set has no node
-pub empty_set : (s : BTreeSet Nid) (n : Nid) → IsEmpty s → contains nid_cmp s n ≡ false
-empty_set s n e = rw e refl
 
 some_kept : (o : Option Kept) (rids : List Rid) → option_map (λ kept. kept.rids) o ≡ Some rids → IsSome o
 some_kept None rids e = cc e

@@ -1,5 +1,6 @@
 pub mod AddedRoutes
 pub mod Links
+pub mod PairOrder
 pub mod Planning
 pub mod ReadKeys
 pub mod ReadRepos

@@ -1,16 +1,14 @@
 -- The first links of peers, and the least of those that some nodes have.
-use Rattle.std.proofs.Common.{◌≡◌, ℕ, zero, suc, ◌+◌, ◌≤◌, Bool, true, false, cond, Option, Some, None, List, [], ◌∷◌, ◌++◌, length, refl, sym, ap, subst, inl, inr, ◌⊎◌, ⊎_elim, ◌∙◌, arith}
-use Rattle.std.specs.Prelude.{Contains, min, option_map, slice_get}
+use Rattle.std.proofs.Common.{◌≡◌, ℕ, zero, suc, ◌+◌, ◌≤◌, Bool, true, false, cond, Option, Some, None, List, [], ◌∷◌, ◌++◌, length, refl, sym, ap, subst, ◌∙◌, arith}
+use Rattle.std.specs.Prelude.{option_map, slice_get}
 use Rattle.std.specs.BTreeMap.{BTreeMap, get, is_at}
 use Rattle.std.specs.Option.{option_or}
-use Rattle.std.proofs.lemmas.Bool.{cases_lt}
 use Rattle.std.proofs.lemmas.Cmp.{eq_by_cmp_equiv}
-use Rattle.rad_base.proofs.Members.{contains_cases, contains_head, contains_nothing, contains_tail}
 use Rattle.rad_base.proofs.NameOrder.{nid_total}
 use Rattle.rad_base.proofs.Options.{some_is}
 use Rattle.rad_base.specs.Order.{nid_cmp}
 use Rattle.rad_base.specs.declared.names.Nid.{Nid}
-use Rattle.routing.specs.Plans.{AddsLink, is_peer, least_link, lesser, link_of}
+use Rattle.routing.specs.Plans.{AddsLink, is_peer, link_of}
 use Rattle.routing.proofs.RidOrder.{nid_itself, one_nid}
 
 abbrev pub Peers : Type 0
@@ -131,57 +129,3 @@ link_before (peer ∷ peers) node (suc link) e = by_test (link_before peers node
     by_test : IsBefore peers node link → (b : Bool) → is_peer peer node ≡ b → IsBefore (peer ∷ peers) node (suc link)
     by_test later true h = (0, rw h refl, omega arith)
     by_test later false h = (later.0 + 1, rw (h, later.1) refl, omega (arith, later.2))
-
--- ------ the least of some
-
-lesser_from : (a b : Option ℕ) (l : ℕ) → lesser a b ≡ Some l → (a ≡ Some l) ⊎ (b ≡ Some l)
-lesser_from None b l e = inr e
-lesser_from (Some x) None l e = inl e
-lesser_from (Some x) (Some y) l e =
-    ⊎_elim (λ h. let is : min x y ≡ x = omega (arith, h) in inl (sym (ap Some is) ∙ e))
-    (λ h. let is : min x y ≡ y = omega (arith, h) in inr (sym (ap Some is) ∙ e)) (cases_lt x y)
-
-lesser_left : (a b : Option ℕ) (m : ℕ) → a ≡ Some m → (l : ℕ) × (lesser a b ≡ Some l) × (l ≤ m)
-lesser_left None b m e = cc e
-lesser_left (Some x) None m e = (x, refl, let h : x ≡ m = some_is x m e in omega (arith, h))
-lesser_left (Some x) (Some y) m e = (min x y, refl, let h : x ≡ m = some_is x m e in omega (arith, h))
-
-lesser_right : (a b : Option ℕ) (m : ℕ) → b ≡ Some m → (l : ℕ) × (lesser a b ≡ Some l) × (l ≤ m)
-lesser_right None b m e = (m, e, omega arith)
-lesser_right (Some x) None m e = cc e
-lesser_right (Some x) (Some y) m e = (min x y, refl, let h : y ≡ m = some_is y m e in omega (arith, h))
-
--- one of the nodes has the least link
-pub least_has : (links : LinkMap) (nodes : List Nid) (l : ℕ) → least_link links nodes ≡ Some l
-    → (node : Nid) × Contains nodes node × (get nid_cmp links node ≡ Some l)
-least_has links [] l e = cc e
-least_has links (n ∷ nodes) l e =
-    ⊎_elim (λ h. (n, contains_head n nodes, h))
-    (λ h. let r = least_has links nodes l h in (r.0, contains_tail n nodes r.0 r.1, r.2))
-    (lesser_from (get nid_cmp links n) (least_link links nodes) l e)
-
--- there is a least link that is no later than this
-abbrev pub HasLeast : LinkMap → List Nid → ℕ → Type 0
-HasLeast links nodes m = (l : ℕ) × (least_link links nodes ≡ Some l) × (l ≤ m)
-
-pub least_below : (links : LinkMap) (nodes : List Nid) (node : Nid) (m : ℕ) → Contains nodes node → get nid_cmp links node ≡ Some m
-    → HasLeast links nodes m
-least_below links [] node m there e = absurd (contains_nothing node there)
-least_below links (n ∷ nodes) node m there e =
-    ⊎_elim (λ h. lesser_left (get nid_cmp links n) (least_link links nodes) m (ap (get nid_cmp links) h ∙ e))
-    (λ h. let r = least_below links nodes node m h e in
-    let s = lesser_right (get nid_cmp links n) (least_link links nodes) r.0 r.1 in
-    (s.0, s.1, omega (arith, r.2, s.2)))
-    (contains_cases n nodes node there)
-
--- ------ as they are looked at
-
-pub lesser_assoc : (a b c : Option ℕ) → lesser (lesser a b) c ≡ lesser a (lesser b c)
-lesser_assoc None b c = refl
-lesser_assoc (Some x) None c = refl
-lesser_assoc (Some x) (Some y) None = refl
-lesser_assoc (Some x) (Some y) (Some z) = ap Some (omega arith)
-
-pub lesser_none : (a : Option ℕ) → lesser a None ≡ a
-lesser_none None = refl
-lesser_none (Some x) = refl

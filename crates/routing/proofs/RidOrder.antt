@@ -1,9 +1,10 @@
 -- The order of repositories' names is total, and names that compare as equal are one.
-use Rattle.std.proofs.Common.{◌≡◌, Bool, true, false, Option, Some, None, refl, sym, ap, subst, ◌∙◌}
+use Rattle.std.proofs.Common.{◌≡◌, ℕ, Bool, true, false, nat_eq, not, List, Option, Some, None, refl, sym, ap, subst, ◌∙◌}
 use Rattle.std.specs.Prelude.{IfNone, IsSome, is_some}
 use Rattle.rad_base.proofs.Options.{not_nothing}
 use Rattle.std.specs.BTreeMap.{is_at}
 use Rattle.std.specs.Cmp.{IsTotalOrder}
+use Rattle.std.specs.Cmp.Lexicographic.{other_text, pointwise, same_text}
 use Rattle.std.proofs.lemmas.Bool.{false≢true}
 use Rattle.std.proofs.lemmas.Cmp.{eq_by_cmp_equiv, on_total}
 use Rattle.std.proofs.lemmas.Map.Lookups.{CmpEqualImpliesEq}
@@ -51,3 +52,19 @@ some_of (Some x) b e h = (x, refl)
 pub none_of : {X : Type 0} (o : Option X) (b : Bool) → b ≡ is_some o → b ≡ false → o ≡ None
 none_of None b e h = refl
 none_of (Some x) b e h = absurd (false≢true (sym h ∙ e))
+
+-- what a test of two names has told
+pub same_name : (a b : Rid) → true ≡ pointwise nat_eq a.0.0 b.0.0 → a ≡ b
+same_name a b e = ap (λ (bytes : List ℕ). record { 0 = record { 0 = bytes } }) (same_text a.0.0 b.0.0 e)
+
+pub other_name : (a b : Rid) → false ≡ pointwise nat_eq a.0.0 b.0.0 → a ≡ b → ⊥
+other_name a b e h = other_text a.0.0 b.0.0 e (ap (λ (r : Rid). r.0.0) h)
+
+-- what a test of two names has told by its contrary
+pub from_not : (b : Bool) → false ≡ not b → true ≡ b
+from_not true e = refl
+from_not false e = sym e
+
+pub to_not : (b : Bool) → true ≡ not b → false ≡ b
+to_not true e = sym e
+to_not false e = refl

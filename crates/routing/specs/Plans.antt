@@ -1,5 +1,5 @@
 -- Which repository is fetched at which link.
-use Rattle.std.specs.Prelude.{◌≡◌, ◌↔◌, ℕ, ◌+◌, ◌<◌, min, Bool, false, cond, List, [], ◌∷◌, Option, None, Some, option_map, IsTrue, Contains, slice_get}
+use Rattle.std.specs.Prelude.{◌≡◌, ◌↔◌, ◌⊎◌, ◌++◌, ℕ, ◌+◌, ◌<◌, min, Bool, false, cond, List, [], ◌∷◌, Option, None, Some, option_map, IsTrue, Contains, slice_get}
 use Rattle.std.specs.BTreeMap.{BTreeMap, get, is_at}
 use Rattle.std.specs.Option.{option_or}
 use Rattle.rad_base.specs.Order.{RisesBy, nid_cmp, rid_cmp}
@@ -42,13 +42,18 @@ abbrev pub AddsLink : Option Nid → ℕ → BTreeMap Nid ℕ → BTreeMap Nid �
 AddsLink peer link old new = (node : Nid) → get nid_cmp new node
     ≡ option_or (get nid_cmp old node) (cond (is_peer peer node) (Some link) None)
 
--- the lesser of two links, or the one that is there
-abbrev pub lesser : Option ℕ → Option ℕ → Option ℕ
-lesser None b = b
-lesser (Some a) None = Some a
-lesser (Some a) (Some b) = Some (min a b)
+-- the last is of the repository, and takes the lesser of its link and this
+pub record Lessens (old : List Planned) (rid : Rid) (link : ℕ) (new : List Planned) : Type 0 where
+  pub before : List Planned
+  pub last : ℕ
+  pub was : old ≡ before ++ record { rid = rid; link = last } ∷ []
+  pub is : new ≡ before ++ record { rid = rid; link = min last link } ∷ []
 
--- the least of the links that some nodes have
-abbrev pub least_link : BTreeMap Nid ℕ → List Nid → Option ℕ
-least_link links [] = None
-least_link links (node ∷ nodes) = lesser (get nid_cmp links node) (least_link links nodes)
+-- the last, if there is one, is of another repository, and this one stands behind it
+pub record Appends (old : List Planned) (rid : Rid) (link : ℕ) (new : List Planned) : Type 0 where
+  pub other : (before : List Planned) (last : Planned) → old ≡ before ++ last ∷ [] → last.rid ≡ rid → ⊥
+  pub is : new ≡ old ++ record { rid = rid; link = link } ∷ []
+
+-- the repository is planned at the link, behind those below it
+abbrev pub AddsPlanned : List Planned → Rid → ℕ → List Planned → Type 0
+AddsPlanned old rid link new = Lessens old rid link new ⊎ Appends old rid link new

@@ -1,8 +1,9 @@
 -- Which nodes have a repository, by the inventories that are kept.
-use Rattle.std.specs.Prelude.{◌≡◌, ◌↔◌, Bool, false, List, Some, IsTrue, Contains}
-use Rattle.std.specs.BTreeMap.{get}
+use Rattle.std.specs.Prelude.{◌≡◌, ◌↔◌, Bool, List, Option, Some, IsTrue, Contains}
 use Rattle.std.specs.BTreeSet.{contains}
-use Rattle.std.specs.Option.{option_map_or}
+use Rattle.std.specs.Option.{option_cmp}
+use Rattle.std.specs.Ordering.{ordering_then}
+use Rattle.std.specs.declared.cmp.Ordering.{Ordering}
 use Rattle.rad_base.specs.Order.{RisesBy, nid_cmp, rid_cmp}
 use Rattle.rad_base.specs.declared.names.Nid.{Nid}
 use Rattle.rad_base.specs.declared.names.Rid.{Rid}
@@ -16,9 +17,13 @@ pub record Names (table : Keeping) (node : Nid) (rid : Rid) : Type 0 where
   pub kept : inventory_of table node ≡ Some rids
   pub named : Contains rids rid
 
+-- the order of pairs: by repository, then by key, none below each
+abbrev pub pair_cmp : Rid × Option Nid → Rid × Option Nid → Ordering
+pair_cmp a b = ordering_then (rid_cmp a.0 b.0) (option_cmp nid_cmp a.1 b.1)
+
 -- whether routes have a node for a repository
 abbrev pub has_route : Routes → Rid → Nid → Bool
-has_route routes rid node = option_map_or (λ nodes. contains nid_cmp nodes node) (get rid_cmp routes.nodes rid) false
+has_route routes rid node = contains pair_cmp routes.pairs (rid, Some node)
 
 -- routes have exactly the nodes whose kept inventory names the repository
 abbrev pub AreRoutes : Keeping → Routes → Type 0

@@ -3,12 +3,12 @@ ghost use Rattle.std.specs.Prelude.{◌≡◌, IfOk, OnOk};
 ghost use Rattle.std.specs.BTreeMap.{get};
 ghost use Rattle.rad_base.specs.Order.{nid_cmp};
 ghost use Rattle.rad_base.specs.declared.names.Nid.{Nid};
-ghost use Rattle.routing.specs.Plans.{AddsLink, IsPlan, least_link, lesser, link_of};
+ghost use Rattle.routing.specs.Plans.{AddsLink, AddsPlanned, IsPlan, link_of};
 
 use crate::{Routes, Rules};
 use rad_base::{Nid, NoMemory, Rid};
 use std::alloc::Global;
-use std::collections::{BTreeMap, BTreeSet};
+use std::collections::BTreeMap;
 
 /// A repository that is fetched, and the link at which it is, from 0.
 #[derive(Clone, Copy, Debug, PartialEq, Eq)]
@@ -48,26 +48,18 @@ fn links_of(alloc: Global, peers: &[Option<Nid>]) -> Result<BTreeMap<Nid, usize>
     Ok(links)
 }
 
-// The lesser of two links, or the one that is there.
-fn lesser(a: Option<usize>, b: Option<usize>) -> Option<usize>
-    ensures { result ≡ lesser a b }
+// Adds a repository at a link, behind those below it.
+fn add_planned(planned: &mut Vec<Planned>, rid: Rid, link: usize) -> Result<(), NoMemory>
+    ensures { OnOk result (AddsPlanned planned.old.items rid link planned.new.items) }
 {
-    match (a, b) {
-        (None, b) => b,
-        (a, None) => a,
-        (Some(a), Some(b)) => Some(a.min(b)),
+    if let Some(last) = planned.last_mut() {
+        if last.rid == rid {
+            last.link = last.link.min(link);
+            return Ok(());
+        }
     }
-}
-
-// The first link of one of these nodes.
-fn first_link(links: &BTreeMap<Nid, usize>, nodes: &BTreeSet<Nid>) -> Option<usize>
-    ensures { result ≡ least_link links.now nodes.now.keys }
-{
-    let mut first = None;
-    for node in nodes.iter() {
-        first = lesser(first, links.get(node).copied());
-    }
-    first
+    planned.push(Planned { rid, link })?;
+    Ok(())
 }
 
 /// What is fetched at which link: each repository that the rules allow and that is named by the
@@ -83,10 +75,12 @@ pub fn plan(
 {
     let links = links_of(alloc, peers)?;
     let mut planned = Vec::new(alloc);
-    for (rid, nodes) in routes.nodes.iter() {
-        if rules.allows(rid) {
-            if let Some(link) = first_link(&links, nodes) {
-                planned.push(Planned { rid: *rid, link })?;
+    for (rid, node) in routes.pairs.iter() {
+        if let Some(node) = node {
+            if rules.allows(rid) {
+                if let Some(link) = links.get(node) {
+                    add_planned(&mut planned, *rid, *link)?;
+                }
             }
         }
     }

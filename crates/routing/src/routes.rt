@@ -8,12 +8,13 @@ ghost use Rattle.routing.specs.RoutesOf.{AreNodes, AreRoutes, has_route};
 use announcements::Table;
 use rad_base::{Nid, Nids, NoMemory, Rid};
 use std::alloc::Global;
-use std::collections::{BTreeMap, BTreeSet};
+use std::collections::BTreeSet;
 
 /// For each repository the nodes whose kept inventory names it.
 #[derive(Drop)]
 pub struct Routes {
-    pub(crate) nodes: BTreeMap<Rid, BTreeSet<Nid>>,
+    // Each has a node: none is the bound below the nodes of a repository.
+    pub(crate) pairs: BTreeSet<(Rid, Option<Nid>)>,
 }
 
 impl Routes {
@@ -22,31 +23,26 @@ impl Routes {
         ensures { (rid : Rid) (node : Nid) → has_route result rid node ≡ false }
     {
         Routes {
-            nodes: BTreeMap::new(alloc),
+            pairs: BTreeSet::new(alloc),
         }
     }
 
     // Adds a node for a repository.
-    fn add(&mut self, alloc: Global, rid: Rid, node: Nid) -> Result<(), NoMemory>
+    fn add(&mut self, rid: Rid, node: Nid) -> Result<(), NoMemory>
         ensures { OnOk result ((r : Rid) (n : Nid) → IsTrue (has_route self.new r n)
             ↔ (IsTrue (has_route self.old r n) ⊎ ((r ≡ rid) × (n ≡ node)))) }
     {
-        let mut nodes = match self.nodes.remove(&rid) {
-            Some(nodes) => nodes,
-            None => BTreeSet::new(alloc),
-        };
-        nodes.insert(node)?;
-        self.nodes.insert(rid, nodes)?;
+        self.pairs.insert((rid, Some(node)))?;
         Ok(())
     }
 
     // Adds a node for each of some repositories.
-    fn add_all(&mut self, alloc: Global, node: Nid, rids: &[Rid]) -> Result<(), NoMemory>
+    fn add_all(&mut self, node: Nid, rids: &[Rid]) -> Result<(), NoMemory>
         ensures { OnOk result ((r : Rid) (n : Nid) → IsTrue (has_route self.new r n)
             ↔ (IsTrue (has_route self.old r n) ⊎ ((n ≡ node) × Contains rids.now r))) }
     {
         for rid in rids {
-            self.add(alloc, *rid, node)?;
+            self.add(*rid, node)?;
         }
         Ok(())
     }
@@ -59,7 +55,7 @@ impl Routes {
         let nodes = table.inventories(alloc)?;
         for node in nodes.as_slice() {
             if let Some(rids) = table.inventory(node) {
-                routes.add_all(alloc, *node, rids)?;
+                routes.add_all(*node, rids)?;
             }
         }
         Ok(routes)
@@ -71,8 +67,11 @@ impl Routes {
         ensures { IfOk result (AreNodes self.now rid.now) }
     {
         let mut nodes = Nids::new(alloc);
-        if let Some(set) = self.nodes.get(rid) {
-            for node in set.iter() {
+        for (other, node) in self.pairs.range((*rid, None)..) {
+            if other != rid {
+                break;
+            }
+            if let Some(node) = node {
                 nodes.push(*node)?;
             }
         }
