@@ -98,8 +98,12 @@ fn a_disk_asks_its_files(rt: HostRuntime) -> Result<(), Fail> {
     }
     assert_eq!(rt; into, *b"\0cdefg\x09\x09");
     assert_eq!(rt; fake.bytes(alloc)?.as_slice(), WRITTEN);
+    Ok(())
+}
 
-    // A file that is there is opened as it is.
+#[test]
+fn a_file_that_is_there_is_opened_as_it_is(rt: HostRuntime) -> Result<(), Fail> {
+    let alloc = rt.alloc();
     let full = Fake::new(alloc, b"abc".to_vec(alloc)?, 3, Fails::Never);
     let mut disk = FileDisk::new(FakeFiles(&full), FILE.to_string(alloc)?);
     assert_eq!(rt; disk.write_at(1, b"x"), Ok(()));

@@ -153,15 +153,19 @@ fn is_shut<S: Sink>(sink: &mut S) -> bool {
     false
 }
 
-#[test]
-fn a_connection(rt: HostRuntime) -> Result<(), Fail> {
-    let alloc = rt.alloc();
+// A listener at a port of the system's choice, and its address.
+fn listening(rt: HostRuntime) -> Result<(TcpListener, String), Fail> {
     let listener = TcpListener::bind(&rt, "127.0.0.1:0")?;
     let local = listener.local_addr()?;
-    let address = format!(in alloc; "{local}")?;
-    let mut into = [0u8; 8];
+    let address = format!(in rt.alloc(); "{local}")?;
+    Ok((listener, address))
+}
 
-    let mut link = hand_over(TcpLink::new(rt, address.clone()?));
+#[test]
+fn a_connection_is_made_by_the_first_call(rt: HostRuntime) -> Result<(), Fail> {
+    let (listener, address) = listening(rt)?;
+    let mut into = [0u8; 8];
+    let mut link = hand_over(TcpLink::new(rt, address));
     assert_eq!(rt; link.give(b""), Ok(0));
     assert_eq!(rt; link.give(b"ask"), Ok(3));
     let (mut other, _) = listener.accept()?;
@@ -174,24 +178,38 @@ fn a_connection(rt: HostRuntime) -> Result<(), Fail> {
     assert_eq!(rt; take_all(&mut link, &mut into), Ok(1));
     assert_eq!(rt; into[0], b'r');
     assert_eq!(rt; link.take(&mut into), Ok(0));
+    Ok(())
+}
 
-    // The other end goes while some of what came is unread: the connection is reset, and nobody
-    // reads any more.
-    let mut link = TcpLink::new(rt, address.clone()?);
+// The other end goes while some of what came is unread: the connection is reset, and nobody reads
+// any more.
+#[test]
+fn a_connection_that_is_reset(rt: HostRuntime) -> Result<(), Fail> {
+    let (listener, address) = listening(rt)?;
+    let mut link = TcpLink::new(rt, address);
     assert_eq!(rt; link.give(b"ask"), Ok(3));
     let (mut other, _) = listener.accept()?;
-    other.read_exact(&mut into[..1])?;
+    other.read_exact(&mut [0u8; 1])?;
     drop(other);
     assert!(rt; is_reset(&mut link));
     assert!(rt; is_shut(&mut link));
+    Ok(())
+}
 
-    // Nobody listens, or there is no such address.
+#[test]
+fn nobody_listens_or_no_such_address(rt: HostRuntime) -> Result<(), Fail> {
+    let mut into = [0u8; 8];
     for nowhere in [NOWHERE, "127.0.0.1", "nowhere.invalid:x"] {
-        let mut link = TcpLink::new(rt, nowhere.to_string(alloc)?);
+        let mut link = TcpLink::new(rt, nowhere.to_string(rt.alloc())?);
         assert_eq!(rt; link.give(b"ask"), Err(Failed), "{nowhere}");
         assert_eq!(rt; link.take(&mut into), Err(Failed), "{nowhere}");
     }
     Ok(())
+}
+
+// A failure of the system's.
+fn refused() -> Fail {
+    Fail::from(io::Error::from(io::ErrorKind::Other))
 }
 
 #[test]
@@ -199,12 +217,12 @@ fn doors_of_connections(rt: HostRuntime) -> Result<(), Fail> {
     let alloc = rt.alloc();
     let mut doors = hand_over(TcpDoors::new(rt, "127.0.0.1:0".to_string(alloc)?));
     let Ok(local) = doors.listen() else {
-        return Err(Fail::from(io::Error::from(io::ErrorKind::Other)));
+        return Err(refused());
     };
     assert_eq!(rt; doors.listen(), Ok(local));
     let address = format!(in alloc; "{local}")?;
     let (Ok(mut dialed), Ok(mut accepted)) = (doors.dial(address.as_str()), doors.accept()) else {
-        return Err(Fail::from(io::Error::from(io::ErrorKind::Other)));
+        return Err(refused());
     };
     let mut into = [0u8; 4];
     assert_eq!(rt; accepted.give(b"pong"), Ok(4));
@@ -215,14 +233,25 @@ fn doors_of_connections(rt: HostRuntime) -> Result<(), Fail> {
     assert_eq!(rt; into, *b"pong");
     drop(dialed);
     assert_eq!(rt; accepted.take(&mut into), Ok(0));
+    Ok(())
+}
 
-    // Another can't listen there, but can dial. Nobody answers where nobody listens.
+// Who cannot listen where another does can dial there. Nobody answers where nobody listens.
+#[test]
+fn doors_that_cannot_listen(rt: HostRuntime) -> Result<(), Fail> {
+    let alloc = rt.alloc();
+    let mut doors = TcpDoors::new(rt, "127.0.0.1:0".to_string(alloc)?);
+    let Ok(local) = doors.listen() else {
+        return Err(refused());
+    };
+    let address = format!(in alloc; "{local}")?;
     let mut second = TcpDoors::new(rt, address.clone()?);
     assert!(rt; second.accept().is_err());
     assert_eq!(rt; open(&mut doors, Some(NOWHERE)), Err(Failed));
     let (Ok(mut dialed), Ok(mut accepted)) = (second.dial(address.as_str()), doors.accept()) else {
-        return Err(Fail::from(io::Error::from(io::ErrorKind::Other)));
+        return Err(refused());
     };
+    let mut into = [0u8; 4];
     assert_eq!(rt; dialed.give(b"more"), Ok(4));
     assert_eq!(rt; take_all(&mut accepted, &mut into), Ok(4));
     assert_eq!(rt; into, *b"more");

@@ -107,45 +107,35 @@ fn a_file_is_made_by_the_first_write(rt: HostRuntime) -> Result<(), Fail> {
     Ok(())
 }
 
+// Whether a disk's size, read, write and sync at a path fail, and a source's first call.
+fn which_fail(rt: HostRuntime, path: &str) -> io::Result<[bool; 5]> {
+    let alloc = rt.alloc();
+    let mut into = [0u8; 8];
+    let mut disk = FileDisk::new(rt, path.to_string(alloc)?);
+    let size = disk.size().is_err();
+    let read = disk.read_at(0, &mut into).is_err();
+    let write = disk.write_at(0, b"a").is_err();
+    let sync = disk.sync().is_err();
+    let mut source = FileSource::new(rt, path.to_string(alloc)?);
+    Ok([size, read, write, sync, source.take(&mut into).is_err()])
+}
+
 #[test]
 fn a_path_that_cannot_be_used(rt: HostRuntime) -> Result<(), Fail> {
     let alloc = rt.alloc();
     let file = path_of(&rt, "file")?;
     fs::write(&rt, file.as_str(), "text")?;
-    let folder = env::temp_dir(&rt)?.as_str().to_string(alloc)?;
+    let folder = env::temp_dir(&rt)?;
+    assert_eq!(rt; which_fail(rt, folder.as_str())?, [true; 5]);
     let below = format!(in alloc; "{file}/below")?;
-    let absent = format!(in alloc; "{file}.absent/below")?;
-    let mut into = [0u8; 8];
+    assert_eq!(rt; which_fail(rt, below.as_str())?, [true; 5]);
 
-    for path in [&folder, &below] {
-        assert_eq!(rt;
-            FileDisk::new(rt, path.clone()?).size(),
-            Err(Failed),
-            "{path}"
-        );
-        assert_eq!(rt;
-            FileDisk::new(rt, path.clone()?).read_at(0, &mut into),
-            Err(Failed)
-        );
-        assert_eq!(rt;
-            FileDisk::new(rt, path.clone()?).write_at(0, b"a"),
-            Err(Failed)
-        );
-        assert_eq!(rt; FileDisk::new(rt, path.clone()?).sync(), Err(Failed));
-        assert_eq!(rt;
-            FileSource::new(rt, path.clone()?).take(&mut into),
-            Err(Failed)
-        );
-    }
-    assert_eq!(rt; FileDisk::new(rt, absent.clone()?).size(), Ok(0));
-    assert_eq!(rt;
-        FileDisk::new(rt, absent.clone()?).write_at(0, b"a"),
-        Err(Failed)
-    );
-    assert_eq!(rt;
-        FileSource::new(rt, absent.clone()?).take(&mut into),
-        Err(Failed)
-    );
+    let absent = format!(in alloc; "{file}.absent/below")?;
+    let mut disk = FileDisk::new(rt, absent.clone()?);
+    assert_eq!(rt; disk.size(), Ok(0));
+    assert_eq!(rt; disk.write_at(0, b"a"), Err(Failed));
+    let mut source = FileSource::new(rt, absent);
+    assert_eq!(rt; source.take(&mut [0u8; 8]), Err(Failed));
 
     fs::remove_file(&rt, file.as_str())?;
     Ok(())
