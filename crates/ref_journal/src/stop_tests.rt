@@ -1,46 +1,21 @@
 // What stands when a run stops at any call of its disk.
-use crate::{AppendFault, Journal, MakeFault, OpenFault, Parcel};
-use rad_outside::{Disk, Fill, MemDisk};
+use crate::{AppendFault, Journal, Parcel};
+use rad_outside::{Fill, MemDisk};
 use std::alloc::Global;
-use std::process::Abort;
 use std::test::Fail;
 
-// What the ranges hold after a crash that were not synced.
-const FILLS: [Fill; 5] = [
-    Fill::Old,
-    Fill::New,
-    Fill::Byte(0),
-    Fill::Byte(1),
-    Fill::Byte(7),
-];
-
-// What stands on a disk: no journal, or which of the bodies `aa` and `bbbb`, in this order.
+// What stands on a disk: a journal of no body, one of the body `aa`, or anything else.
 #[derive(Clone, Copy, Debug, PartialEq, Eq)]
 enum Stands {
-    Unmade,
     Nothing,
     First,
-    Second,
-    Both,
     Other,
-}
-
-impl Stands {
-    // With one body more.
-    fn and(self, more: Stands) -> Stands {
-        match (self, more) {
-            (Stands::Nothing, _) => more,
-            (Stands::First, Stands::Second) => Stands::Both,
-            _ => Stands::Other,
-        }
-    }
 }
 
 // What an opening finds in these bytes.
 fn found(alloc: Global, bytes: Vec<u8>) -> Result<Stands, Fail> {
     let mut journal = match Journal::open(MemDisk::new(alloc, bytes, Vec::new(alloc))) {
         Ok(journal) => journal,
-        Err(OpenFault::Unmade(_)) => return Ok(Stands::Unmade),
         Err(_) => return Ok(Stands::Other),
     };
     let mut all = Vec::new(alloc);
@@ -59,169 +34,8 @@ fn found(alloc: Global, bytes: Vec<u8>) -> Result<Stands, Fail> {
     Ok(match all.as_slice() {
         b"" => Stands::Nothing,
         b"\xaa." => Stands::First,
-        b"\xbb\xbb." => Stands::Second,
-        b"\xaa.\xbb\xbb." => Stands::Both,
         _ => Stands::Other,
     })
-}
-
-// Makes a journal where a making failed.
-fn made_again(mut disk: MemDisk) -> Result<Journal<MemDisk>, Fail> {
-    if disk.sync().is_err() {
-        return Err(Fail::new("not synced"));
-    }
-    match Journal::make(disk) {
-        Ok(journal) => Ok(journal),
-        Err(MakeFault::DiskFault(_)) => Err(Fail::new("not made")),
-        Err(MakeFault::AlreadyMade(disk)) => match Journal::open(disk) {
-            Ok(journal) => Ok(journal),
-            Err(_) => Err(Fail::new("not open")),
-        },
-    }
-}
-
-// A part of a run: it ends behind so many calls of the disk, and what may stand until then, and at
-// its end.
-#[derive(Clone, Copy)]
-struct Span {
-    end: u64,
-    within: [Stands; 3],
-    after: [Stands; 2],
-}
-
-// A run of a journal, part by part.
-#[derive(Drop)]
-struct Run {
-    journal: Journal<MemDisk>,
-    spans: Vec<Span>,
-    // What was acknowledged, and what may stand in its place.
-    has: Stands,
-    doubted: Stands,
-}
-
-impl Run {
-    // Makes a journal. Where that fails it syncs and makes one again: else the mark might stand
-    // already, before the header behind it.
-    fn make(alloc: Global, fails: Vec<u64>) -> Result<Run, Fail> {
-        let mut spans = Vec::new(alloc);
-        let disk = MemDisk::new(alloc, b"\0".to_vec(alloc)?, fails);
-        let journal = match Journal::make(disk) {
-            Ok(journal) => journal,
-            Err(MakeFault::AlreadyMade(_)) => return Err(Fail::new("made twice")),
-            Err(MakeFault::DiskFault(disk)) => made_again(disk)?,
-        };
-        spans.push(Span {
-            end: journal.disk().calls(),
-            within: [Stands::Unmade, Stands::Nothing, Stands::Nothing],
-            after: [Stands::Nothing, Stands::Nothing],
-        })?;
-        Ok(Run {
-            journal,
-            spans,
-            has: Stands::Nothing,
-            doubted: Stands::Nothing,
-        })
-    }
-
-    // One more part is done, in which this might stand too.
-    fn end(&mut self, before: [Stands; 2], more: Stands) -> Result<(), Fail> {
-        self.spans.push(Span {
-            end: self.journal.disk().calls(),
-            within: [before[0], before[1], more],
-            after: [self.has, self.doubted],
-        })?;
-        Ok(())
-    }
-
-    fn append(&mut self, parcel: &Parcel, body: Stands) -> Result<(), Fail> {
-        let before = [self.has, self.doubted];
-        let more = self.has.and(body);
-        match self.journal.append(parcel) {
-            Ok(_) => {
-                self.has = more;
-                self.doubted = more;
-            }
-            Err(AppendFault::DiskFault { in_doubt: true }) => self.doubted = more,
-            Err(AppendFault::DiskFault { in_doubt: false }) => {}
-            Err(AppendFault::Full) => return Err(Fail::new("full")),
-        }
-        self.end(before, more)
-    }
-
-    fn mend(&mut self) -> Result<(), Fail> {
-        let before = [self.has, self.doubted];
-        if self.journal.mend().is_ok() {
-            self.doubted = self.has;
-        }
-        self.end(before, before[0])
-    }
-
-    // Whether this may stand after so many calls.
-    fn may_stand(&self, call: u64, stands: Stands) -> bool {
-        for span in &self.spans {
-            if call < span.end {
-                return span.within.contains(&stands);
-            }
-            if call == span.end {
-                return span.after.contains(&stands);
-            }
-        }
-        false
-    }
-}
-
-// Makes a journal, appends a body, mends and appends another, and then crashes after each call.
-fn run_and_crash(rt: &impl Abort, alloc: Global, fails: Vec<u64>) -> Result<Stands, Fail> {
-    let mut run = Run::make(alloc, fails)?;
-    run.append(&Parcel::of(alloc, &[0xaa])?, Stands::First)?;
-    run.mend()?;
-    run.append(&Parcel::of(alloc, &[0xbb, 0xbb])?, Stands::Second)?;
-    for call in 0..=run.journal.disk().calls() {
-        for fill in FILLS {
-            let stands = found(alloc, run.journal.disk().crash(alloc, call, fill)?)?;
-            assert!(rt;
-                run.may_stand(call, stands),
-                "{stands:?} after {call} by {fill:?}"
-            );
-        }
-    }
-    Ok(run.has)
-}
-
-// The making has the calls 0 to 4, the append 5 to 8, the second one four more. A call of the
-// append's gate that fails as well makes a mend of two calls.
-#[test]
-fn each_call_fails_in_turn_and_each_stop(rt: HostRuntime) -> Result<(), Fail> {
-    let alloc = rt.alloc();
-    for (first, has) in [
-        (0, Stands::Both),
-        (1, Stands::Both),
-        (2, Stands::Both),
-        (3, Stands::Both),
-        (4, Stands::Both),
-        (5, Stands::Second),
-        (6, Stands::Second),
-        (7, Stands::Second),
-        (8, Stands::Second),
-        (9, Stands::First),
-        (10, Stands::First),
-        (11, Stands::First),
-        (12, Stands::First),
-        (13, Stands::Both),
-    ] {
-        let ends = run_and_crash(&rt, alloc, vec![in alloc; first]?)?;
-        assert_eq!(rt; ends, has, "at {first}");
-    }
-    for (first, second, has) in [
-        (7, 8, Stands::Second),
-        (7, 9, Stands::Second),
-        (8, 9, Stands::Second),
-        (8, 10, Stands::Second),
-    ] {
-        let ends = run_and_crash(&rt, alloc, vec![in alloc; first, second]?)?;
-        assert_eq!(rt; ends, has, "at {first} and {second}");
-    }
-    Ok(())
 }
 
 // A journal of the nine bytes, which an opening reads by four calls.

@@ -1,4 +1,4 @@
-// Journals by their bytes, and a disk that is lent.
+// Each public call with ample memory, and a disk that is lent and whose calls fail.
 ghost use Rattle.std.specs.Prelude.{◌≡◌, ◌≤◌, ◌++◌, ◌∷◌, [], List, ℕ, None, IfErr, IfNone, IfOk};
 ghost use Rattle.std.specs.Prelude.{IfSome, OnOk, OnSome};
 ghost use Rattle.ref_journal.specs.Holds.{HasAppendCause, Holds};
@@ -10,96 +10,7 @@ use rad_outside::{Disk, MemDisk};
 use std::alloc::Global;
 use std::test::Fail;
 
-// A line says what an independent program told of these bytes: the bodies in hexadecimal, where
-// `none` is no body and `-` a body of no bytes, or a refusal.
-const TOLD: [(&str, &str); 22] = [
-    ("", "unmade"),
-    ("0000000000000000", "unmade"),
-    ("000000000000000000", "unmade"),
-    ("017261646a726e01", "unmade"),
-    ("017261646a726e0100", "bodies none end 8"),
-    ("017261646a726e0107", "bodies none end 8"),
-    ("017261646a726e01006a756e6b", "bodies none end 8"),
-    ("027261646a726e0100", "unmade"),
-    ("017261646a726e01010000000000000001aa00", "bodies aa end 18"),
-    ("017261646a726e01010000000000000001aa", "damaged 8"),
-    ("017261646a726e01010000000000000001aa02", "bodies aa end 18"),
-    ("017261646a726e0101000000000000000000", "bodies - end 17"),
-    (
-        "017261646a726e01010000000000000002aabb010000000000000014636363636363636363636363636363636363636300",
-        "bodies aabb 6363636363636363636363636363636363636363 end 48",
-    ),
-    ("017261646a726e01010000000000000001aa01", "damaged 18"),
-    ("017261646a726e010100000000000000", "damaged 8"),
-    (
-        "017261646a726e01010000000000000001aa01000000000206cc8100",
-        "damaged 18",
-    ),
-    ("017261646a726e0101ffffffffffffffff", "damaged 8"),
-    ("017261646a724e0100", "damaged 0"),
-    ("017261646a726e0300", "damaged 0"),
-    ("017261646a726e0000", "damaged 0"),
-    ("017261646a726e010100000000000000056162636465", "damaged 8"),
-    (
-        "017261646a726e0101000000000000000161010000000000000001610100000000000000016101000000000000000161010000000000000001618001000000000000000162",
-        "bodies 61 61 61 61 61 end 58",
-    ),
-];
-
 const FRESH: [u8; 9] = [1, 0x72, 0x61, 0x64, 0x6a, 0x72, 0x6e, 1, 0];
-
-// What the journal of these bytes tells, as a line.
-fn told(alloc: Global, text: &str) -> Result<String, Fail> {
-    let disk = MemDisk::new(alloc, hex::decode(alloc, text)?, Vec::new(alloc));
-    match Journal::open(disk) {
-        Ok(journal) => bodies_told(alloc, journal),
-        Err(OpenFault::Unmade(_)) => Ok(String::from_str(alloc, "unmade")?),
-        Err(OpenFault::Damaged(_, place)) => Ok(format!(in alloc; "damaged {place}")?),
-        Err(OpenFault::DiskFault(_)) => Ok(String::from_str(alloc, "disk fault")?),
-    }
-}
-
-// The bodies of a journal of fewer than eight.
-fn bodies_told(alloc: Global, mut journal: Journal<MemDisk>) -> Result<String, Fail> {
-    let mut line = String::from_str(alloc, "bodies")?;
-    let mut body = Vec::new(alloc);
-    let mut place = 8;
-    for _ in 0..8 {
-        match journal.scan(place, &mut body)? {
-            None => break,
-            Some(next) => {
-                push_body(&mut line, &body)?;
-                place = next;
-            }
-        }
-    }
-    let end = journal.end();
-    if end == 8 {
-        line.push_str(" none")?;
-    }
-    Ok(format!(in alloc; "{line} end {end}")?)
-}
-
-fn push_body(line: &mut String, body: &[u8]) -> Result<(), Fail> {
-    if body.is_empty() {
-        line.push_str(" -")?;
-    }
-    for (n, byte) in body.iter().enumerate() {
-        if n == 0 {
-            line.push_str(" ")?;
-        }
-        write!(line, "{byte:02x}")?;
-    }
-    Ok(())
-}
-
-#[test]
-fn journals_by_their_bytes(rt: HostRuntime) -> Result<(), Fail> {
-    for (bytes, line) in TOLD {
-        assert_eq!(rt; told(rt.alloc(), bytes)?.as_str(), line, "at {bytes}");
-    }
-    Ok(())
-}
 
 // Appends two bodies, one after the other.
 fn append_both<D: Disk>(
