@@ -21,8 +21,6 @@ mod units;
 mod window;
 mod wire;
 mod wire_fault;
-#[cfg(test)]
-mod wire_tests;
 mod writing;
 
 pub use frame::{Body, Frame};

@@ -1,25 +1,22 @@
-// Messages and frames, against what an independent program made of the same bytes.
+// Each call that wants memory where there is enough, and links that end and fail.
 ghost use Rattle.std.specs.Prelude.{IfOk};
 ghost use Rattle.gossip_wire.specs.Frames.{IsBody};
 
-mod frame_rows;
-mod message_rows;
-mod more_stream_rows;
-mod stream_rows;
-mod wires;
-
 use crate::bodies::are_bytes;
 use crate::{
-    Body, Frame, FrameReader, Message, MessageFault, WriteFault, read_message, write_frame,
-    write_message,
+    Body, Frame, FrameFault, FrameReader, Message, Wire, WireFault, WriteFault, read_message,
+    write_frame, write_message,
 };
-use frame_rows::{End, Row};
 use rad_base::Bytes;
+use rad_outside::{Failed, Link, MemLink};
 use std::alloc::Global;
 use std::test::Fail;
 
-// The bytes of runs of digits.
-fn bytes_of(alloc: Global, runs: &[(&[u8], usize)]) -> Result<Vec<u8>, Fail> {
+// Two pings: the first has 12 bytes, the second, on stream 66, 13.
+const PINGS: &[u8] = b"726164010206000a0004000072616401404206000a00000000";
+
+// Whether runs of digits are a message, which writes them again.
+fn is_message(alloc: Global, runs: &[(&[u8], usize)]) -> Result<bool, Fail> {
     let mut bytes = Vec::new(alloc);
     for (digits, times) in runs {
         let run = hex::decode(alloc, *digits)?;
@@ -27,205 +24,62 @@ fn bytes_of(alloc: Global, runs: &[(&[u8], usize)]) -> Result<Vec<u8>, Fail> {
             bytes.extend_from_slice(&run)?;
         }
     }
-    Ok(bytes)
-}
-
-fn type_of(message: &Message) -> u16 {
-    match message {
-        Message::Hello { .. } => 1,
-        Message::Node { .. } => 2,
-        Message::Inventory { .. } => 4,
-        Message::Refs { .. } => 6,
-        Message::Subscribe { .. } => 8,
-        Message::Ping { .. } => 10,
-        Message::Pong { .. } => 12,
+    match read_message(alloc, &bytes) {
+        Ok(message) => Ok(write_message(alloc, &message)? == bytes),
+        Err(_) => Ok(false),
     }
-}
-
-// The type of the message that the bytes are, which writes them again; 0 where they are none.
-fn kind_of(alloc: Global, bytes: &[u8]) -> Result<u16, Fail> {
-    match read_message(alloc, bytes) {
-        Ok(message) => {
-            let again = write_message(alloc, &message)?;
-            if again.as_slice() == bytes {
-                Ok(type_of(&message))
-            } else {
-                Ok(99)
-            }
-        }
-        Err(MessageFault::BadBody) => Ok(0),
-        Err(MessageFault::NoMemory) => Ok(98),
-    }
-}
-
-// Whether a row's bytes are read so, and no front of a message is one.
-fn is_message_row(alloc: Global, row: &message_rows::Row) -> Result<bool, Fail> {
-    let (runs, kind) = *row;
-    let bytes = bytes_of(alloc, runs)?;
-    if kind > 0 {
-        for cut in 0..bytes.len() {
-            if kind_of(alloc, &bytes[..cut])? != 0 {
-                return Ok(false);
-            }
-        }
-    }
-    Ok(kind_of(alloc, &bytes)? == kind)
-}
-
-// Whether all rows are read so.
-fn are_message_rows(alloc: Global, rows: &[message_rows::Row]) -> Result<bool, Fail> {
-    for row in rows {
-        if !is_message_row(alloc, row)? {
-            return Ok(false);
-        }
-    }
-    Ok(true)
 }
 
 #[test]
-fn messages_are_read_and_written(rt: HostRuntime) -> Result<(), Fail> {
-    let alloc = rt.alloc();
-    for rows in message_rows::all() {
-        assert!(rt; are_message_rows(alloc, rows)?);
-    }
-    Ok(())
-}
-
-// What was read of bytes: the frames, and how they end.
-#[derive(Drop)]
-struct Heard {
-    frames: Vec<(u64, u8, u64, u8)>,
-    end: Option<End>,
-}
-
-impl Heard {
-    fn new(alloc: Global) -> Self {
-        Heard {
-            frames: Vec::new(alloc),
-            end: None,
-        }
-    }
-
-    // Adds a frame, as its place, kind, number and side.
-    fn add(&mut self, place: u64, frame: &Frame) -> Result<(), Fail> {
-        let kind = match &frame.body {
-            Body::Control(_) => 0,
-            Body::Gossip(_) => 1,
-            Body::Git(_) => 2,
-        };
-        self.frames.push((place, kind, frame.number, frame.side))?;
-        Ok(())
-    }
-
-    fn add_all(&mut self, frames: &[(u64, Frame)]) -> Result<(), Fail> {
-        for (place, frame) in frames {
-            self.add(*place, frame)?;
-        }
-        Ok(())
-    }
-
-    // Whether this is what a row says.
-    fn is(&self, row: &Row) -> bool {
-        self.frames.as_slice() == row.1 && self.end == Some(row.2)
-    }
-}
-
-// What a reader makes of pieces.
-fn heard_of(alloc: Global, pieces: &[&[u8]]) -> Result<Heard, Fail> {
-    let mut reader = FrameReader::new(alloc);
-    let mut heard = Heard::new(alloc);
-    let mut refused = None;
-    for piece in pieces {
-        match reader.feed(alloc, piece) {
-            Ok(frames) => heard.add_all(&frames)?,
-            Err(fault) => {
-                if refused.is_none() {
-                    heard.add_all(reader.before())?;
-                }
-                refused = Some(fault);
-            }
-        }
-    }
-    heard.end = Some(match (refused, reader.unfinished()) {
-        (Some(fault), _) => End::Broken(fault),
-        (None, Some(place)) => End::Inside(place),
-        (None, None) => End::Whole,
-    });
-    Ok(heard)
-}
-
-// Whether a row's bytes are read so, cut at each place, and byte by byte.
-fn is_frame_row(alloc: Global, row: &Row) -> Result<bool, Fail> {
-    let bytes = bytes_of(alloc, row.0)?;
-    for cut in 0..=bytes.len() {
-        let (front, back) = bytes.split_at(cut);
-        if !heard_of(alloc, &[front, back])?.is(row) {
-            return Ok(false);
-        }
-    }
-    let mut single = Vec::new(alloc);
-    for byte in bytes.chunks(1) {
-        single.push(byte)?;
-    }
-    Ok(heard_of(alloc, &single)?.is(row))
-}
-
-// Whether all rows are read so.
-fn are_frame_rows(alloc: Global, rows: &[Row]) -> Result<bool, Fail> {
-    for row in rows {
-        if !is_frame_row(alloc, row)? {
-            return Ok(false);
-        }
-    }
-    Ok(true)
-}
-
-#[test]
-fn frames_are_read_however_they_are_cut(rt: HostRuntime) -> Result<(), Fail> {
-    let alloc = rt.alloc();
-    for rows in frame_rows::all() {
-        assert!(rt; are_frame_rows(alloc, rows)?);
-    }
-    for rows in stream_rows::all() {
-        assert!(rt; are_frame_rows(alloc, rows)?);
-    }
-    for rows in more_stream_rows::all() {
-        assert!(rt; are_frame_rows(alloc, rows)?);
-    }
-    Ok(())
-}
-
-// Where the unit begins in which bytes end that are fed in two pieces.
-fn unfinished_at(alloc: Global, digits: &[u8], cut: usize) -> Result<Option<u64>, Fail> {
-    let bytes = hex::decode(alloc, digits)?;
-    let mut reader = FrameReader::new(alloc);
-    let (front, back) = bytes.split_at(cut.min(bytes.len()));
-    let _ = reader.feed(alloc, front);
-    let _ = reader.feed(alloc, back);
-    Ok(reader.unfinished())
-}
-
-#[test]
-fn the_unit_in_which_bytes_end_is_told(rt: HostRuntime) -> Result<(), Fail> {
-    let rows: &[(&[u8], Option<u64>)] = &[
-        (b"", None),
-        (b"72", Some(0)),
-        (b"726164", Some(0)),
-        (b"72616401", Some(4)),
-        (b"7261640140", Some(4)),
-        (b"7261640102", Some(5)),
-        (b"726164010206", Some(6)),
-        (b"726164010206000a000400", Some(6)),
-        (b"726164010206000a00040000", None),
-        (b"726164010206000a00040000726164", Some(12)),
-        (b"726164010400", None),
-        (b"72616401040072616401", Some(10)),
+fn a_message_of_each_type(rt: HostRuntime) -> Result<(), Fail> {
+    let about = b"0000000000000001000000000000000705616c6961730103613a31".as_slice();
+    let time = b"0000000000000007".as_slice();
+    let one = b"0001".as_slice();
+    let fill = b"21".as_slice();
+    let rows: &[&[(&[u8], usize)]] = &[
+        &[(b"0001", 1), (fill, 32)],
+        &[(b"0002", 1), (fill, 96), (about, 1)],
+        &[(b"0004", 1), (fill, 96), (one, 1), (fill, 20), (time, 1)],
+        &[(b"0006", 1), (fill, 116), (one, 1), (fill, 52), (time, 1)],
+        &[(b"00080400", 1), (fill, 1024), (time, 2)],
+        &[(b"000a0004000100", 1)],
+        &[(b"000c000100", 1)],
     ];
-    for (digits, place) in rows {
-        for cut in 0..=digits.len() / 2 {
-            assert_eq!(rt; unfinished_at(rt.alloc(), digits, cut)?, *place);
-        }
+    for runs in rows {
+        assert!(rt; is_message(rt.alloc(), runs)?);
     }
+    assert!(rt; !is_message(rt.alloc(), &[(b"000c000121", 1)])?);
+    Ok(())
+}
+
+// The places and numbers of frames.
+fn told(alloc: Global, frames: &[(u64, Frame)]) -> Result<Vec<(u64, u64)>, Fail> {
+    let mut told = Vec::new(alloc);
+    for (place, frame) in frames {
+        told.push((*place, frame.number))?;
+    }
+    Ok(told)
+}
+
+// A frame of each kind, at 0, 8 and 20, and one of kind 3, whose stream is at 33.
+#[test]
+fn frames_in_two_pieces(rt: HostRuntime) -> Result<(), Fail> {
+    let alloc = rt.alloc();
+    let front = hex::decode(alloc, b"72616401000200057261")?;
+    let back = hex::decode(alloc, b"64010206000a00040000726164011d036162637261640106")?;
+    let mut reader = FrameReader::new(alloc);
+    match reader.feed(alloc, &front) {
+        Ok(frames) => assert_eq!(rt; told(alloc, &frames)?.as_slice(), [(0, 0)].as_slice()),
+        Err(_) => return Err(Fail::new("refused")),
+    }
+    assert_eq!(rt; reader.unfinished(), Some(8));
+    let fault = FrameFault::BadKind(33);
+    assert_eq!(rt; reader.feed(alloc, &back).err(), Some(fault));
+    assert_eq!(rt;
+        told(alloc, reader.before())?.as_slice(),
+        [(8, 0), (20, 3)].as_slice()
+    );
+    assert_eq!(rt; reader.feed(alloc, &back).err(), Some(fault));
     Ok(())
 }
 
@@ -240,36 +94,99 @@ fn git(alloc: Global, bytes: &[u8]) -> Result<Body, Fail>
 #[test]
 fn frames_are_written(rt: HostRuntime) -> Result<(), Fail> {
     let alloc = rt.alloc();
-    let ping = Frame {
-        number: 0,
-        side: 0,
-        body: Body::Gossip(Message::Ping { pong: 4, zeros: 0 }),
-    };
-    assert_eq!(rt;
-        write_frame(alloc, &ping)?,
-        hex::decode(alloc, b"726164010206000a00040000")?
-    );
     let pong = Frame {
         number: 0,
         side: 1,
         body: Body::Gossip(Message::Pong { zeros: 4 }),
     };
+    let text = hex::encode(alloc, write_frame(alloc, &pong)?)?;
+    assert_eq!(rt; text.as_str(), "726164010308000c000400000000");
+    let number = 1 << 59;
+    let body = git(alloc, b"abc")?;
+    let unsaid = Frame {
+        number,
+        side: 1,
+        body,
+    };
     assert_eq!(rt;
-        write_frame(alloc, &pong)?,
-        hex::decode(alloc, b"726164010308000c000400000000")?
+        write_frame(alloc, &unsaid).err(),
+        Some(WriteFault::TooLong)
     );
-    let most = (1 << 59) - 1;
-    for (number, size, fault) in [
-        (most, 65_535, None),
-        (most, 65_536, Some(WriteFault::TooLong)),
-        (most + 1, 0, Some(WriteFault::TooLong)),
-    ] {
-        let frame = Frame {
-            number,
-            side: 1,
-            body: git(alloc, &vec![in alloc; 7u8; size]?)?,
-        };
-        assert_eq!(rt; write_frame(alloc, &frame).err(), fault);
+    let body = git(alloc, b"abc")?;
+    let frame = Frame {
+        number: 3,
+        side: 1,
+        body,
+    };
+    let text = hex::encode(alloc, write_frame(alloc, &frame)?)?;
+    assert_eq!(rt; text.as_str(), "726164011d03616263");
+    Ok(())
+}
+
+// The place and number of the next frame.
+fn step<L: Link + Drop>(
+    wire: &mut Wire<L>,
+    alloc: Global,
+) -> Result<Option<(u64, u64)>, WireFault> {
+    match wire.next(alloc)? {
+        Some((place, frame)) => Ok(Some((place, frame.number))),
+        None => Ok(None),
     }
+}
+
+// A link with the pings, in pieces of 5 bytes. The calls listed fail.
+fn link_of(alloc: Global, fails: &[u64]) -> Result<MemLink, Fail> {
+    let bytes = hex::decode(alloc, PINGS)?;
+    Ok(MemLink::new(alloc, bytes, 5, fails.to_vec(alloc)?))
+}
+
+#[test]
+fn a_link_that_fails(rt: HostRuntime) -> Result<(), Fail> {
+    let alloc = rt.alloc();
+    let mut link = link_of(alloc, &[0, 2, 5, 6])?;
+    let mut wire = Wire::new(alloc, &mut link, 99);
+    let fails = Err(WireFault::LinkFault);
+    for want in [
+        fails,
+        fails,
+        Ok(Some((0, 0))),
+        fails,
+        fails,
+        Ok(Some((12, 8))),
+        Ok(None),
+    ] {
+        assert_eq!(rt; step(&mut wire, alloc), want);
+    }
+    Ok(())
+}
+
+#[test]
+fn a_budget_that_is_raised(rt: HostRuntime) -> Result<(), Fail> {
+    let alloc = rt.alloc();
+    let mut wire = Wire::new(alloc, link_of(alloc, &[])?, 5);
+    let too_long = Err(WireFault::TooLong);
+    for (budget, want) in [
+        (11, too_long),
+        (12, Ok(Some((0, 0)))),
+        (3, too_long),
+        (24, too_long),
+        (25, Ok(Some((12, 8)))),
+        (0, Ok(None)),
+    ] {
+        wire.raise(budget);
+        assert_eq!(rt; step(&mut wire, alloc), want, "{budget}");
+    }
+    Ok(())
+}
+
+#[test]
+fn sends_and_closes(rt: HostRuntime) -> Result<(), Fail> {
+    let alloc = rt.alloc();
+    let mut wire = Wire::new(alloc, link_of(alloc, &[1])?, 99);
+    assert_eq!(rt; wire.send(b"one"), Ok(()));
+    assert_eq!(rt; wire.send(b"two"), Err(Failed));
+    assert_eq!(rt; step(&mut wire, alloc), Ok(Some((0, 0))));
+    assert_eq!(rt; wire.send(b"three"), Ok(()));
+    assert_eq!(rt; wire.close().output(), b"onethree".as_slice());
     Ok(())
 }
