@@ -1,6 +1,6 @@
 // Faults of look-ups, which are answered as they are.
-use super::long_chain::{CHANGE, FIRST, ONE, at};
-use super::told::{keyring_of, put_all};
+use super::chains::{CHANGE, FIRST, ONE, at};
+use super::objects::{keyring_of, put_all};
 use crate::{IdFault, id_chain};
 use commit_graph::{FailingObjects, Failure, GetFault, MemObjects};
 use keyring::Keyring;

@@ -1,67 +1,10 @@
-// Repositories of identity commits, and what is told of their tips.
-use crate::{DocFault, IdFault, id_chain};
+// The objects of identity commits by templates, and the keyring of their signatures.
 use commit_graph::MemObjects;
 use git_object::Kind;
 use keyring::Keyring;
-use rad_base::{NoMemory, Oid, Rid};
+use rad_base::{NoMemory, Oid};
 use std::alloc::{AllocError, Global};
 use std::test::Fail;
-
-/// What is told of a tip: how many delegates its document has and their threshold, or the refusal
-/// of the tip.
-#[derive(Clone, Copy)]
-pub(crate) enum Wanted {
-    Read(usize, u8),
-    Missing(Oid),
-    BadObject(Oid),
-    TwoParents,
-    NoDocument,
-    WrongRoot,
-    NotJson,
-    BadDocument(DocFault),
-    BadSignatures(usize),
-    TooFew(usize, usize),
-}
-
-fn fault_at(wanted: Wanted, tip: Oid) -> Option<IdFault> {
-    Some(match wanted {
-        Wanted::Read(..) => return None,
-        Wanted::Missing(oid) => IdFault::Missing(oid),
-        Wanted::BadObject(oid) => IdFault::BadObject(oid),
-        Wanted::TwoParents => IdFault::TwoParents(tip),
-        Wanted::NoDocument => IdFault::NoDocument(tip),
-        Wanted::WrongRoot => IdFault::WrongRoot(tip),
-        Wanted::NotJson => IdFault::NotJson(tip),
-        Wanted::BadDocument(fault) => IdFault::BadDocument(tip, fault),
-        Wanted::BadSignatures(line) => IdFault::BadSignatures(tip, line),
-        Wanted::TooFew(have, need) => {
-            let commit = tip;
-            IdFault::TooFew { commit, have, need }
-        }
-    })
-}
-
-/// Whether this is told of the tip.
-pub(crate) fn is_told(
-    alloc: Global,
-    store: &MemObjects,
-    keyring: &Keyring,
-    rid: Oid,
-    tip: Oid,
-    wanted: Wanted,
-) -> bool {
-    let mut objects = store;
-    match (
-        id_chain(alloc, &mut objects, keyring, &Rid(rid), &tip),
-        wanted,
-    ) {
-        (Ok(doc), Wanted::Read(count, threshold)) => {
-            doc.delegates.as_slice().len() == count && doc.threshold == threshold
-        }
-        (Err(fault), refusal) => fault_at(refusal, tip) == Some(fault),
-        _ => false,
-    }
-}
 
 const PEOPLE: &[u8] = b"author a <a@b> 0 +0000\ncommitter a <a@b> 0 +0000\n\nid\n";
 
