@@ -1,133 +1,19 @@
-// Sections in pieces of any length, and what is written of their parts.
+// Each call that wants memory where there is enough, and readers that refuse.
+ghost use Rattle.fetch_wire.specs.Requests.{IsWithinLimits};
 ghost use Rattle.fetch_wire.specs.Sections.{IsWithin};
 
-mod request_rows;
-mod requests;
-mod rows;
-
-use crate::{Break, Fed, Part, SectionFault, SectionReader, Which, push_object, write_part};
+use crate::{
+    Break, Part, Request, RequestFault, RequestReader, SectionFault, SectionReader, Which,
+    push_object, write_part, write_request,
+};
 use git_object::Kind;
-use rad_base::{Bytes, Nid, Offer, Oid, Remotes};
-use rows::{End, IDENTITY, ROWS, Row, SIGS, TIPS};
+use rad_base::{Bytes, Nid, Nids, Offer, Oid, Oids, Remotes, Rid};
 use std::alloc::Global;
 use std::test::Fail;
 
-// What a reader made of pieces: how many parts before the end, and how it ended.
-#[derive(Drop)]
-struct Heard {
-    parts: usize,
-    used: usize,
-    end: Option<End>,
-}
-
-fn end_of(fed: &Fed, used: usize) -> Option<End> {
-    if !fed.done {
-        return None;
-    }
-    let last = fed.parts.get(fed.parts.len().checked_sub(1)?)?;
-    match last {
-        Part::Refused(code) => Some(End::Refused(used, *code)),
-        _ => Some(End::Done(used)),
-    }
-}
-
-// What came of a piece more.
-fn hear(alloc: Global, reader: &mut SectionReader, heard: Heard, piece: &[u8]) -> Heard {
-    if heard.end.is_some() {
-        return heard;
-    }
-    match reader.feed(alloc, piece) {
-        Ok(fed) => {
-            let used = heard.used.saturating_add(fed.used);
-            let end = end_of(&fed, used);
-            let parts = fed.parts.len().saturating_sub(usize::from(end.is_some()));
-            Heard {
-                parts: heard.parts.saturating_add(parts),
-                used,
-                end,
-            }
-        }
-        Err(SectionFault::Bad(broken)) => Heard {
-            parts: heard.parts.saturating_add(reader.before().len()),
-            used: heard.used,
-            end: Some(End::Bad(broken.place, broken.shown)),
-        },
-        Err(SectionFault::NoMemory) => heard,
-    }
-}
-
-fn heard_of(alloc: Global, which: Which, pieces: &[&[u8]]) -> (usize, End) {
-    let mut reader = SectionReader::new(alloc, which);
-    let mut heard = Heard {
-        parts: 0,
-        used: 0,
-        end: None,
-    };
-    for piece in pieces {
-        heard = hear(alloc, &mut reader, heard, piece);
-    }
-    (heard.parts, heard.end.unwrap_or(End::Short(reader.place())))
-}
-
-fn decoded(alloc: Global, pieces: &[&[u8]]) -> Result<Vec<u8>, Fail> {
-    let mut bytes = Vec::new(alloc);
-    for digits in pieces {
-        let more = hex::decode(alloc, digits)?;
-        bytes.extend_from_slice(&more)?;
-    }
-    Ok(bytes)
-}
-
-// The section of a row, made of the whole one.
-fn section_of(alloc: Global, row: &Row) -> Result<Vec<u8>, Fail> {
-    let whole = decoded(
-        alloc,
-        match row.which {
-            Which::Identity => IDENTITY,
-            Which::Sigs => SIGS,
-            Which::Tips => TIPS,
-        },
-    )?;
-    let middle = hex::decode(alloc, row.middle)?;
-    let mut bytes = Vec::new(alloc);
-    for byte in whole.iter().take(row.front) {
-        bytes.push(*byte)?;
-    }
-    bytes.extend_from_slice(&middle)?;
-    for byte in whole.iter().skip(whole.len().saturating_sub(row.back)) {
-        bytes.push(*byte)?;
-    }
-    Ok(bytes)
-}
-
-// Whether a row's section is read so, cut at each place, and byte by byte.
-fn is_read(alloc: Global, row: &Row) -> Result<bool, Fail> {
-    let bytes = section_of(alloc, row)?;
-    let wanted = (row.parts, row.end);
-    for cut in 0..=bytes.len() {
-        let (front, back) = bytes.split_at(cut);
-        if heard_of(alloc, row.which, &[front, back]) != wanted {
-            return Ok(false);
-        }
-    }
-    let mut single = Vec::new(alloc);
-    for byte in bytes.chunks(1) {
-        single.push(byte)?;
-    }
-    Ok(heard_of(alloc, row.which, &single) == wanted)
-}
-
-fn all_rows() -> &'static [Row] {
-    ROWS
-}
-
-#[test]
-fn sections_are_read_however_they_are_cut(rt: HostRuntime) -> Result<(), Fail> {
-    for row in all_rows() {
-        assert!(rt; is_read(rt.alloc(), row)?);
-    }
-    Ok(())
-}
+const OFFER: &[u8] = b"4903030303030303030303030303030303030303030001\
+  0101010101010101010101010101010101010101010101010101010101010101\
+  0202020202020202020202020202020202020202";
 
 // Whether a part is written so, in hexadecimal digits.
 fn is_written(alloc: Global, part: &Part, digits: &[u8]) -> Result<bool, Fail>
@@ -145,10 +31,7 @@ fn parts_are_written_in_their_spelling(rt: HostRuntime) -> Result<(), Fail> {
         id: Oid([3; 20]),
         remotes,
     });
-    let digits = b"4903030303030303030303030303030303030303030001\
-      0101010101010101010101010101010101010101010101010101010101010101\
-      0202020202020202020202020202020202020202";
-    assert!(rt; is_written(alloc, &offer, digits)?);
+    assert!(rt; is_written(alloc, &offer, OFFER)?);
     assert!(rt; is_written(alloc, &Part::SigsHead, b"53")?);
     assert!(rt; is_written(alloc, &Part::TipsHead, b"44")?);
     let empty = Part::Object(Kind::Tag, Bytes::of(Vec::new(alloc)));
@@ -158,6 +41,32 @@ fn parts_are_written_in_their_spelling(rt: HostRuntime) -> Result<(), Fail> {
     let mut object = Vec::new(alloc);
     push_object(&mut object, Kind::Blob, b"ab")?;
     assert_eq!(rt; object, hex::decode(alloc, b"4f03000000026162")?);
+    Ok(())
+}
+
+// How many parts the section has that these digits begin with, and how many bytes.
+fn sizes(alloc: Global, which: Which, digits: &[u8]) -> Result<(usize, usize), Fail> {
+    let bytes = hex::decode(alloc, digits)?;
+    let mut reader = SectionReader::new(alloc, which);
+    match reader.feed(alloc, &bytes) {
+        Ok(fed) if fed.done => Ok((fed.parts.len(), fed.used)),
+        Ok(_) => Err(Fail::new("not whole")),
+        Err(_) => Err(Fail::new("refused")),
+    }
+}
+
+#[test]
+fn a_section_of_each_kind(rt: HostRuntime) -> Result<(), Fail> {
+    let alloc = rt.alloc();
+    let mut identity = OFFER.to_vec(alloc)?;
+    identity.extend_from_slice(b"4f03000000026162656e640a53")?;
+    assert_eq!(rt; sizes(alloc, Which::Identity, &identity)?, (3, 87));
+    assert_eq!(rt;
+        sizes(alloc, Which::Sigs, b"534f0400000000656e640a53")?,
+        (3, 11)
+    );
+    assert_eq!(rt; sizes(alloc, Which::Tips, b"44656e640a")?, (2, 5));
+    assert_eq!(rt; sizes(alloc, Which::Tips, b"520244")?, (1, 2));
     Ok(())
 }
 
@@ -179,5 +88,55 @@ fn a_refusal_stays_and_its_parts_are_given_once(rt: HostRuntime) -> Result<(), F
     assert!(rt; matches!(parts.pop_front(), Some(Part::SigsHead)));
     assert_eq!(rt; parts.len(), 1);
     assert_eq!(rt; reader.before().len(), 0);
+    Ok(())
+}
+
+// Whether a request is written as runs of digits, and read.
+fn is_request(alloc: Global, request: &Request, digits: &[&[u8]]) -> Result<bool, Fail>
+    requires { IsWithinLimits request.now }
+{
+    let mut bytes = Vec::new(alloc);
+    for run in digits {
+        bytes.extend_from_slice(&hex::decode(alloc, *run)?)?;
+    }
+    let read = RequestReader::new(alloc).feed(alloc, &bytes);
+    let count = read.map(|requests| requests.len());
+    Ok(write_request(alloc, request)? == bytes && count == Ok(1))
+}
+
+#[test]
+fn a_request_of_each_kind(rt: HostRuntime) -> Result<(), Fail> {
+    let alloc = rt.alloc();
+    let rid = Rid(Oid([1; 20]));
+    let ones = b"0101010101010101010101010101010101010101";
+    let twos = b"0202020202020202020202020202020202020202";
+    let begin = Request::Begin(rid, Oids::new(alloc));
+    assert!(rt; is_request(alloc, &begin, &[b"01", ones, b"0000"])?);
+    let mut haves = Oids::new(alloc);
+    haves.push(Oid([2; 20]))?;
+    let mut nodes = Nids::new(alloc);
+    nodes.push(Nid([1; 32]))?;
+    nodes.push(Nid([2; 32]))?;
+    let sigs = Request::Sigs(rid, haves, nodes);
+    let node = b"010101010101010101010101";
+    let other = b"020202020202020202020202";
+    let digits: &[&[u8]] = &[b"02", ones, b"0001", twos, b"0002", ones, node, twos, other];
+    assert!(rt; is_request(alloc, &sigs, digits)?);
+    let tips = Request::Tips(rid, Oids::new(alloc), Nids::new(alloc));
+    assert!(rt; is_request(alloc, &tips, &[b"03", ones, b"00000000"])?);
+    assert!(rt; is_request(alloc, &Request::Done, &[b"04"])?);
+    Ok(())
+}
+
+#[test]
+fn a_refused_reader_of_requests_answers_the_same(rt: HostRuntime) -> Result<(), Fail> {
+    let alloc = rt.alloc();
+    let mut reader = RequestReader::new(alloc);
+    let pieces: [&[u8]; 3] = [b"\x04\x04\x05", b"\x04", b""];
+    for piece in pieces {
+        let read = reader.feed(alloc, piece).map(|requests| requests.len());
+        assert_eq!(rt; read, Err(RequestFault::Bad(2)));
+    }
+    assert_eq!(rt; reader.before().len(), 2);
     Ok(())
 }
