@@ -1,6 +1,4 @@
-// Heads of small histories, which agree with Git's own ancestry, of many tips over a long one, and
-// where a look-up fails.
+// Heads of a small history, of many tips over a long one, and where a look-up fails.
 mod failing;
-mod heads_of_git;
-mod histories;
+mod forks;
 mod many_tips;
