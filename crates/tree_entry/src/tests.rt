@@ -6,13 +6,29 @@ use rad_base::{NoMemory, Oid, Rid};
 use std::alloc::Global;
 use std::test::Fail;
 
-fn tree(alloc: Global, objects: &mut MemObjects, parts: &[(&[u8], Oid)]) -> Result<Oid, NoMemory> {
-    let mut bytes = Vec::new(alloc);
-    for (front, oid) in parts {
-        bytes.extend_from_slice(front)?;
-        bytes.extend_from_slice(&oid.0)?;
+const AS: Oid = Oid([b'a'; 20]);
+
+const ALL: &[u8] =
+    b"160000 elsewhere\0aaaaaaaaaaaaaaaaaaaa100755 name\0aaaaaaaaaaaaaaaaaaaa40000 name\0bbbbbbbbbbbbbbbbbbbb";
+
+#[test]
+fn entries_are_found_by_name_and_kind(rt: HostRuntime) -> Result<(), Fail> {
+    let alloc = rt.alloc();
+    let mut objects = MemObjects::new(alloc);
+    let all = objects.put(alloc, Kind::Tree, ALL)?;
+    let broken = objects.put(alloc, Kind::Tree, b"100644 name")?;
+    let cases = [
+        (all, Kind::Blob, b"name".as_slice(), Some(AS)),
+        (all, Kind::Tree, b"name", Some(Oid([b'b'; 20]))),
+        (all, Kind::Commit, b"elsewhere", None),
+        (all, Kind::Blob, b"nam", None),
+        (broken, Kind::Blob, b"name", None),
+        (AS, Kind::Blob, b"name", None),
+    ];
+    for (tree, kind, name, found) in cases {
+        assert_eq!(rt; find_entry(&mut objects, &tree, kind, name), Ok(found));
     }
-    objects.put(alloc, Kind::Tree, &bytes)
+    Ok(())
 }
 
 fn commit(
@@ -25,143 +41,64 @@ fn commit(
     objects.put(alloc, Kind::Commit, &bytes)
 }
 
-#[test]
-fn entries_are_found_by_name_and_kind(rt: HostRuntime) -> Result<(), Fail> {
-    let alloc = rt.alloc();
-    let mut objects = MemObjects::new(alloc);
-    let file = objects.put(alloc, Kind::Blob, b"file")?;
-    let link = Oid([7; 20]);
-    let empty = tree(alloc, &mut objects, &[])?;
-    let all = tree(
-        alloc,
-        &mut objects,
-        &[
-            (b"160000 elsewhere\0", link),
-            (b"120000 link\0", link),
-            (b"100755 name\0", file),
-            (b"40000 name\0", empty),
-        ],
-    )?;
-    let broken = tree(
-        alloc,
-        &mut objects,
-        &[(b"100644 b\0", file), (b"100644 a\0", file)],
-    )?;
-
-    let cases = [
-        (all, Kind::Blob, b"name".as_slice(), Some(file)),
-        (all, Kind::Tree, b"name", Some(empty)),
-        (all, Kind::Blob, b"link", Some(link)),
-        (all, Kind::Commit, b"elsewhere", None),
-        (all, Kind::Blob, b"elsewhere", None),
-        (all, Kind::Blob, b"nam", None),
-        (all, Kind::Blob, b"names", None),
-        (empty, Kind::Blob, b"name", None),
-        (broken, Kind::Blob, b"b", None),
-        (file, Kind::Blob, b"name", None),
-        (link, Kind::Blob, b"name", None),
-    ];
-    for (tree, kind, name, found) in cases {
-        assert_eq!(rt; find_entry(&mut objects, &tree, kind, name), Ok(found));
-    }
-    Ok(())
-}
-
-#[test]
-fn entries_of_commits_are_found(rt: HostRuntime) -> Result<(), Fail> {
-    let alloc = rt.alloc();
-    let mut objects = MemObjects::new(alloc);
-    let file = objects.put(alloc, Kind::Blob, b"file")?;
-    let all = tree(alloc, &mut objects, &[(b"100755 name\0", file)])?;
-    let first = commit(alloc, &mut objects, &all, &[])?;
-    assert_eq!(rt;
-        commit_entry(&mut objects, &first, Kind::Blob, b"name"),
-        Ok(Some(file))
-    );
-    assert_eq!(rt;
-        commit_entry(&mut objects, &all, Kind::Blob, b"name"),
-        Ok(None)
-    );
-    assert_eq!(rt; commit_tree(&mut objects, &all), Ok(None));
-    Ok(())
+// A tree of one directory `embeds`, which has the document; the blob of the document need not be
+// there.
+fn embedding(alloc: Global, objects: &mut MemObjects) -> Result<Oid, NoMemory> {
+    let bytes = b"100644 radicle.json\0aaaaaaaaaaaaaaaaaaaa";
+    let embeds = objects.put(alloc, Kind::Tree, bytes)?;
+    let mut bytes = Vec::from_slice(alloc, b"40000 embeds\0")?;
+    bytes.extend_from_slice(embeds.0.as_slice())?;
+    objects.put(alloc, Kind::Tree, &bytes)
 }
 
 #[test]
 fn identity_roots_have_no_parent_and_the_document(rt: HostRuntime) -> Result<(), Fail> {
     let alloc = rt.alloc();
     let mut objects = MemObjects::new(alloc);
-    // The blob of the document need not be there.
-    let document = Oid([9; 20]);
-    let rid = Rid(document);
-    let embeds = tree(alloc, &mut objects, &[(b"100644 radicle.json\0", document)])?;
-    let top = tree(alloc, &mut objects, &[(b"40000 embeds\0", embeds)])?;
-    let as_file = tree(alloc, &mut objects, &[(b"100644 embeds\0", embeds)])?;
+    let top = embedding(alloc, &mut objects)?;
     let root = commit(alloc, &mut objects, &top, &[])?;
     let later = commit(alloc, &mut objects, &top, &[root])?;
-    let other = commit(alloc, &mut objects, &as_file, &[])?;
-
-    assert_eq!(rt;
-        embedded(&mut objects, &root, b"radicle.json"),
-        Ok(Some(document))
-    );
-    assert_eq!(rt; embedded(&mut objects, &root, b"signatures"), Ok(None));
-    assert_eq!(rt; embedded(&mut objects, &other, b"radicle.json"), Ok(None));
-    assert_eq!(rt; is_identity_root(&mut objects, &rid, &root), Ok(true));
-    assert_eq!(rt;
-        is_identity_root(&mut objects, &Rid(root), &root),
-        Ok(false)
-    );
-    assert_eq!(rt; is_identity_root(&mut objects, &rid, &later), Ok(false));
-    assert_eq!(rt; is_identity_root(&mut objects, &rid, &other), Ok(false));
-    assert_eq!(rt; is_identity_root(&mut objects, &rid, &top), Ok(false));
+    let store = &mut objects;
+    assert_eq!(rt; embedded(store, &root, b"radicle.json"), Ok(Some(AS)));
+    assert_eq!(rt; embedded(store, &root, b"signatures"), Ok(None));
+    assert_eq!(rt; commit_entry(store, &root, Kind::Blob, b"embeds"), Ok(None));
+    let tree = commit_tree(store, &later)?.map(|found| found.tree);
+    assert_eq!(rt; tree, Some(top));
+    assert_eq!(rt; is_identity_root(store, &Rid(AS), &root), Ok(true));
+    assert_eq!(rt; is_identity_root(store, &Rid(root), &root), Ok(false));
+    assert_eq!(rt; is_identity_root(store, &Rid(AS), &later), Ok(false));
+    assert_eq!(rt; is_identity_root(store, &Rid(AS), &top), Ok(false));
     Ok(())
 }
 
-// What a call answers over objects that are at fault behind this many look-ups.
-fn asked(
-    objects: &mut FailingObjects<'_>,
-    call: usize,
-    tree: &Oid,
-    root: &Oid,
-) -> Result<Option<Oid>, GetFault> {
-    match call {
-        0 => find_entry(objects, tree, Kind::Tree, b"embeds"),
-        1 => commit_entry(objects, root, Kind::Tree, b"embeds"),
-        2 => embedded(objects, root, b"radicle.json"),
-        3 => match commit_tree(objects, root) {
-            Ok(found) => Ok(found.map(|found| found.tree)),
-            Err(fault) => Err(fault),
-        },
-        _ => match is_identity_root(objects, &Rid(*root), root) {
-            Ok(_) => Ok(None),
-            Err(fault) => Err(fault),
-        },
-    }
-}
-
-// How many look-ups each of these calls takes.
-const LOOKS: [u64; 5] = [1, 2, 3, 1, 4];
-
+// At each place where a look-up can fail: a call over a tree takes one look-up, and each step from
+// a commit to an entry one more.
 #[test]
 fn faults_of_look_ups_are_handed_on(rt: HostRuntime) -> Result<(), Fail> {
     let alloc = rt.alloc();
     let mut objects = MemObjects::new(alloc);
-    let document = Oid([9; 20]);
-    let embeds = tree(alloc, &mut objects, &[(b"100644 radicle.json\0", document)])?;
-    let top = tree(alloc, &mut objects, &[(b"40000 embeds\0", embeds)])?;
+    let top = embedding(alloc, &mut objects)?;
     let root = commit(alloc, &mut objects, &top, &[])?;
-    for failure in [Failure::Disk, Failure::Change] {
-        for (call, looks) in LOOKS.iter().enumerate() {
-            for answered in 0..*looks {
-                let mut store = FailingObjects::new(&objects, failure, answered);
-                let answer = asked(&mut store, call, &top, &root);
-                assert!(rt; store.fault().is_some());
-                assert_eq!(rt; answer.err(), store.fault());
-            }
-            let mut store = FailingObjects::new(&objects, failure, *looks);
-            assert_eq!(rt; asked(&mut store, call, &top, &root).err(), None);
-            assert_eq!(rt; store.looks(), *looks);
-        }
+    let disk = Some(GetFault::DiskFault);
+    let mut store = FailingObjects::new(&objects, Failure::Disk, 0);
+    assert_eq!(rt;
+        find_entry(&mut store, &top, Kind::Tree, b"embeds").err(),
+        disk
+    );
+    assert_eq!(rt; commit_tree(&mut store, &root).err(), disk);
+    for answers in 0..2 {
+        let mut store = FailingObjects::new(&objects, Failure::Disk, answers);
+        let answer = commit_entry(&mut store, &root, Kind::Tree, b"embeds");
+        assert_eq!(rt; answer.err(), disk);
     }
+    for answers in 0..3 {
+        let mut store = FailingObjects::new(&objects, Failure::Disk, answers);
+        assert_eq!(rt; embedded(&mut store, &root, b"radicle.json").err(), disk);
+        let mut store = FailingObjects::new(&objects, Failure::Disk, answers);
+        assert_eq!(rt; is_identity_root(&mut store, &Rid(AS), &root).err(), disk);
+    }
+    let mut store = FailingObjects::new(&objects, Failure::Change, 3);
+    let answer = is_identity_root(&mut store, &Rid(AS), &root);
+    assert!(rt; matches!(answer, Err(GetFault::Changed(_))));
     Ok(())
 }
