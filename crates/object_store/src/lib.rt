@@ -4,8 +4,6 @@
 
 mod faults;
 mod hear;
-#[cfg(test)]
-mod hear_tests;
 mod install;
 mod laws;
 mod missed;
