@@ -1,7 +1,7 @@
 // Whole runs over objects in memory.
-use crate::{Command, Status, WhichSource, command_of, run_local};
+use crate::{Status, WhichSource, run_local};
 use rad_outside::{Fill, MemDisk, MemSink, MemSource};
-use rad_vectors::{Made, bundle_of, fixture};
+use rad_vectors::{Made, bundle_of};
 use ref_journal::Journal;
 use std::alloc::Global;
 use std::test::Fail;
@@ -24,31 +24,19 @@ const AUDIT: &[&str] = &["audit", "store", "keyring"];
 
 const FRAMES: &[&str] = &["frames", "file"];
 
-const IMPORTED: &str = "job 158d3d14e60647fc73f5f587b36e55c6a078e90b done
-id first 8d4fd11244a1f322e3d7ff9b76e5df6fc41b9725
-remote 1111111111111111111111111111111111111111111111111111111111111111 advanced 99415aa28f0e5b34eae2502b09860562ffec8822
-remote 2222222222222222222222222222222222222222222222222222222222222222 advanced 46f7822451c9f15cb17ab253484a6de1442c9192
-remote 3333333333333333333333333333333333333333333333333333333333333333 advanced 12f4708876d6999837d2e1be737259ff90492682
-head at 32a308da3fcefe1e0e7eea78d89ab58a5207fdef
+const IMPORTED: &str = "job fd38665a716bc6e21e89857ce1cef9268f039ebc done
+id first 297e20c3faf7e3b6c66b23dd3d17080eda0cabc9
+remote 0101010101010101010101010101010101010101010101010101010101010101 advanced 4f325260b7e9a383b8b359e19cb64518da19eb3c
+head at b1ff3dd5533f3275a83636b43d14c1d29c4410a1
 ";
 
-const SHOWN: &str = "repo 158d3d14e60647fc73f5f587b36e55c6a078e90b
-id 8d4fd11244a1f322e3d7ff9b76e5df6fc41b9725
-remote 1111111111111111111111111111111111111111111111111111111111111111 99415aa28f0e5b34eae2502b09860562ffec8822 20
-remote 2222222222222222222222222222222222222222222222222222222222222222 46f7822451c9f15cb17ab253484a6de1442c9192 1
-remote 3333333333333333333333333333333333333333333333333333333333333333 12f4708876d6999837d2e1be737259ff90492682 1
+const SHOWN: &str = "repo fd38665a716bc6e21e89857ce1cef9268f039ebc
+id 297e20c3faf7e3b6c66b23dd3d17080eda0cabc9
+remote 0101010101010101010101010101010101010101010101010101010101010101 4f325260b7e9a383b8b359e19cb64518da19eb3c 1
 ";
 
 const HEAD: &str =
-    "158d3d14e60647fc73f5f587b36e55c6a078e90b at 32a308da3fcefe1e0e7eea78d89ab58a5207fdef\n";
-
-const AGAIN: &str = "job 158d3d14e60647fc73f5f587b36e55c6a078e90b done
-id same 8d4fd11244a1f322e3d7ff9b76e5df6fc41b9725
-remote 1111111111111111111111111111111111111111111111111111111111111111 same
-remote 2222222222222222222222222222222222222222222222222222222222222222 same
-remote 3333333333333333333333333333333333333333333333333333333333333333 same
-head at 32a308da3fcefe1e0e7eea78d89ab58a5207fdef
-";
+    "fd38665a716bc6e21e89857ce1cef9268f039ebc at b1ff3dd5533f3275a83636b43d14c1d29c4410a1\n";
 
 // What a run is handed.
 #[derive(Clone, Copy)]
@@ -155,111 +143,11 @@ fn entries_in(alloc: Global, store: &[u8]) -> Result<Option<usize>, Fail> {
 }
 
 #[test]
-fn words_are_read(rt: HostRuntime) -> Result<(), Fail> {
-    let cases: [(&[&str], Option<Command>); 22] = [
-        (INIT, Some(Command::Init)),
-        (IMPORT, Some(Command::Import)),
-        (SHOW, Some(Command::Show)),
-        (HEADS, Some(Command::Heads)),
-        (AUDIT, Some(Command::Audit)),
-        (FRAMES, Some(Command::Frames)),
-        (&["frames", ""], None),
-        (&["frames", "file", "more"], None),
-        (&["gen", "store", "1"], Some(Command::Gen(1))),
-        (&["gen", "store", "100000"], Some(Command::Gen(100_000))),
-        (&["gen", "store", "0"], None),
-        (&["gen", "store", "01"], None),
-        (&["gen", "store", "+1"], None),
-        (&["gen", "store", "100001"], None),
-        (&["gen", "store"], None),
-        (&[], None),
-        (&["init"], None),
-        (&["init", ""], None),
-        (&["init", "store", "more"], None),
-        (&["heads", "store"], None),
-        (&["import", "store", "", "bundle"], None),
-        (&["Show", "store", "keyring"], None),
-    ];
-    for (texts, command) in &cases {
-        let words = words_of(rt.alloc(), texts)?;
-        assert_eq!(rt; command_of(&words), *command);
-        if command.is_none() {
-            let handed = Given {
-                words: texts,
-                ..GIVEN
-            };
-            let left = run(rt.alloc(), &handed)?;
-            assert_eq!(rt; left.status, Status::Usage);
-            assert_eq!(rt; left.disk.calls(), 0);
-            assert!(rt; left.report.is_empty());
-        }
-    }
-    Ok(())
-}
-
-// The run of `frames` over these bytes: it asks no disk and no keyring.
-fn list(alloc: Global, bytes: &[u8], piece: usize) -> Result<Left, Fail> {
-    let handed = Given {
-        words: FRAMES,
-        bundle: bytes,
-        keys_fails: &[0],
-        disk_fails: &[0],
-        piece,
-        ..GIVEN
-    };
-    run(alloc, &handed)
-}
-
-#[test]
-fn frames_are_listed_or_refused_at_a_place(rt: HostRuntime) -> Result<(), Fail> {
-    let alloc = rt.alloc();
-    let ping = "0 gossip 0 0 6 ping\n";
-    let cases: [(&[u8], Status, &str); 8] = [
-        (b"", Status::Ok, ""),
-        (b"rad\x01\x02\x06\x00\x0a\x00\x04\x00\x00", Status::Ok, ping),
-        (
-            b"rad\x01\x04\x03abcrad\x01\x09\x02\x01\x25",
-            Status::Ok,
-            "0 git 0 0 3\n9 control 1 1 2\n",
-        ),
-        (b"rad\x02", Status::InputBad(3), ""),
-        (b"rad\x01\x40\x25", Status::InputBad(4), ""),
-        (b"rad\x01\x06\x00", Status::InputBad(4), ""),
-        (
-            b"rad\x01\x02\x06\x00\x0a\x00\x04\x00",
-            Status::InputBad(6),
-            "",
-        ),
-        (b"rad\x01\x02\x02\x00\x0a", Status::InputBad(6), ""),
-    ];
-    for (bytes, status, report) in &cases {
-        for piece in [1, 3, 65_536] {
-            let left = list(alloc, bytes, piece)?;
-            assert_eq!(rt; left.status, *status);
-            assert_eq!(rt; left.report.as_slice(), report.as_bytes());
-            assert_eq!(rt; left.disk.calls(), 0);
-        }
-    }
-    let handed = Given {
-        words: FRAMES,
-        bundle: cases[1].0,
-        piece: 5,
-        input_fails: &[1],
-        ..GIVEN
-    };
-    assert_eq!(rt;
-        run(alloc, &handed)?.status,
-        Status::ReadFault(WhichSource::Input)
-    );
-    Ok(())
-}
-
-// A repository of three delegates is taken into a store, and each command is run on it.
-#[test]
 fn each_command_prints_its_report(rt: HostRuntime) -> Result<(), Fail> {
     let alloc = rt.alloc();
-    let made = fixture(alloc)?;
-    let cases: [(&[&str], Status, &str); 9] = [
+    let made = bundle_of(alloc, 1)?;
+    let cases: [(&[&str], Status, &str); 8] = [
+        (&["show", "store"], Status::Usage, ""),
         (SHOW, Status::Unmade, ""),
         (INIT, Status::Ok, "made\n"),
         (IMPORT, Status::Ok, IMPORTED),
@@ -268,13 +156,7 @@ fn each_command_prints_its_report(rt: HostRuntime) -> Result<(), Fail> {
         (
             AUDIT,
             Status::Ok,
-            "entries 4 repositories 1 remotes 3 objects 617 announcements 0\n",
-        ),
-        (IMPORT, Status::Ok, AGAIN),
-        (
-            AUDIT,
-            Status::Ok,
-            "entries 8 repositories 1 remotes 3 objects 617 announcements 0\n",
+            "entries 4 repositories 1 remotes 1 objects 11 announcements 0\n",
         ),
         (INIT, Status::AlreadyMade, ""),
     ];
@@ -288,148 +170,46 @@ fn each_command_prints_its_report(rt: HostRuntime) -> Result<(), Fail> {
     Ok(())
 }
 
-// A repository that is made by rule is taken into a store. Another one is not of its history.
 #[test]
 fn a_repository_is_made_by_rule(rt: HostRuntime) -> Result<(), Fail> {
-    let alloc = rt.alloc();
-    let left = run(
-        alloc,
-        &Given {
-            words: &["gen", "store", "1"],
-            ..GIVEN
-        },
-    )?;
+    let handed = Given {
+        words: &["gen", "store", "1"],
+        ..GIVEN
+    };
+    let left = run(rt.alloc(), &handed)?;
     assert_eq!(rt; left.status, Status::Ok);
     assert_eq!(rt;
         left.report.as_slice(),
         b"commits 1\nobjects 11\nentries 4\nhead at b1ff3dd5533f3275a83636b43d14c1d29c4410a1\n".as_slice()
     );
-    let again = run(
-        alloc,
-        &Given {
-            words: &["gen", "store", "2"],
-            store: left.disk.bytes(),
+    Ok(())
+}
+
+// `frames` asks no disk and no keyring. A file is read call by call; the second fails at last.
+#[test]
+fn frames_are_listed_or_refused_at_a_place(rt: HostRuntime) -> Result<(), Fail> {
+    let ping: &[u8] = b"rad\x01\x02\x06\x00\x0a\x00\x04\x00\x00";
+    let fault = Status::ReadFault(WhichSource::Input);
+    let cases: [(&[u8], &[u64], Status, &str); 3] = [
+        (ping, &[], Status::Ok, "0 gossip 0 0 6 ping\n"),
+        (b"rad\x01\x40\x25", &[], Status::InputBad(4), ""),
+        (ping, &[1], fault, ""),
+    ];
+    for (bytes, input_fails, status, report) in &cases {
+        let handed = Given {
+            words: FRAMES,
+            bundle: bytes,
+            piece: 5,
+            keys_fails: &[0],
+            disk_fails: &[0],
+            input_fails,
             ..GIVEN
-        },
-    )?;
-    assert_eq!(rt; again.status, Status::NotLegal(4));
-    assert_eq!(rt; again.disk.bytes(), left.disk.bytes());
-    Ok(())
-}
-
-// The place of a broken bundle does not depend on how its bytes are cut. A bundle that is broken
-// behind its end has all its entries in the store.
-#[test]
-fn a_broken_bundle_is_told_by_its_place(rt: HostRuntime) -> Result<(), Fail> {
-    let alloc = rt.alloc();
-    let made = bundle_of(alloc, 1)?;
-    let bundle = made.bundle.as_slice();
-    let end = bundle.len();
-    let mut longer = bundle.to_vec(alloc)?;
-    longer.push(0)?;
-    let cases: [(&[u8], usize, usize); 5] = [
-        (&longer, end, 4),
-        (&bundle[..end.saturating_sub(1)], end.saturating_sub(4), 2),
-        (&bundle[..end.min(20)], 20, 0),
-        (&bundle[..end.min(19)], 0, 0),
-        (&[], 0, 0),
-    ];
-    for piece in [1, 7, 65_536] {
-        for (bytes, place, entries) in &cases {
-            let handed = Given {
-                keyring: made.keyring.as_slice(),
-                bundle: bytes,
-                piece,
-                ..GIVEN
-            };
-            let left = run(alloc, &handed)?;
-            assert_eq!(rt;
-                left.status,
-                Status::InputBad(*place as u64),
-                "in pieces of {piece}"
-            );
-            assert_eq!(rt; entries_in(alloc, left.disk.bytes())?, Some(*entries));
-            assert!(rt; left.report.is_empty());
-        }
+        };
+        let left = run(rt.alloc(), &handed)?;
+        assert_eq!(rt; left.status, *status);
+        assert_eq!(rt; left.report.as_slice(), report.as_bytes());
+        assert_eq!(rt; left.disk.calls(), 0);
     }
-    Ok(())
-}
-
-// How a run ends, and whether it left the store as it was and gave no report.
-fn end_of(alloc: Global, handed: &Given<'_>) -> Result<(Status, bool), Fail> {
-    let left = run(alloc, handed)?;
-    let is_same = left.disk.bytes() == handed.store;
-    Ok((left.status, is_same && left.report.is_empty()))
-}
-
-#[test]
-fn a_store_is_refused_by_its_bytes(rt: HostRuntime) -> Result<(), Fail> {
-    let made = bundle_of(rt.alloc(), 1)?;
-    let good = Given {
-        keyring: made.keyring.as_slice(),
-        bundle: made.bundle.as_slice(),
-        ..GIVEN
-    };
-    let full = run(rt.alloc(), &good)?.disk.bytes().to_vec(rt.alloc())?;
-    let cut = &full[..full.len().saturating_sub(1)];
-    assert!(rt; entries_in(rt.alloc(), cut)?.is_none());
-    let other = Given {
-        store: b"\x01radjrx\x01\x00",
-        ..good
-    };
-    let nine = Given {
-        words: AUDIT,
-        store: full.get(..9).unwrap_or(&[]),
-        ..good
-    };
-    let made_before = Given {
-        words: INIT,
-        store: &full,
-        ..good
-    };
-    let cases = [
-        (Given { store: &[], ..good }, Status::Unmade),
-        (other, Status::Damaged(0)),
-        (nine, Status::Damaged(8)),
-        (made_before, Status::AlreadyMade),
-    ];
-    for (handed, status) in &cases {
-        assert_eq!(rt; end_of(rt.alloc(), handed)?, (*status, true));
-    }
-    Ok(())
-}
-
-#[test]
-fn a_keyring_is_refused_or_refuses(rt: HostRuntime) -> Result<(), Fail> {
-    let made = bundle_of(rt.alloc(), 1)?;
-    let good = Given {
-        keyring: made.keyring.as_slice(),
-        bundle: made.bundle.as_slice(),
-        ..GIVEN
-    };
-    let full = run(rt.alloc(), &good)?.disk.bytes().to_vec(rt.alloc())?;
-    let broken = Given {
-        keyring: b"own 61\nname\n",
-        ..good
-    };
-    let without = Given {
-        words: SHOW,
-        store: &full,
-        keyring: &[],
-        ..good
-    };
-    let cases = [
-        (broken, Status::KeyringBad(2)),
-        (without, Status::NotLegal(4)),
-    ];
-    for (handed, status) in &cases {
-        assert_eq!(rt; end_of(rt.alloc(), handed)?, (*status, true));
-    }
-    let refused = Given {
-        keyring: &[],
-        ..good
-    };
-    assert_eq!(rt; run(rt.alloc(), &refused)?.status, Status::SomeRefused);
     Ok(())
 }
 
@@ -477,7 +257,7 @@ fn a_failing_call_is_told(rt: HostRuntime) -> Result<(), Fail> {
 #[test]
 fn a_failing_disk_leaves_a_front_of_the_entries(rt: HostRuntime) -> Result<(), Fail> {
     let alloc = rt.alloc();
-    let made = fixture(alloc)?;
+    let made = bundle_of(alloc, 1)?;
     let good = Given {
         keyring: made.keyring.as_slice(),
         bundle: made.bundle.as_slice(),
@@ -513,7 +293,7 @@ fn a_failing_disk_leaves_a_front_of_the_entries(rt: HostRuntime) -> Result<(), F
 #[test]
 fn a_crash_keeps_what_was_acknowledged(rt: HostRuntime) -> Result<(), Fail> {
     let alloc = rt.alloc();
-    let made = fixture(alloc)?;
+    let made = bundle_of(alloc, 1)?;
     let good = Given {
         keyring: made.keyring.as_slice(),
         bundle: made.bundle.as_slice(),
