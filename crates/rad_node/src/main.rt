@@ -35,17 +35,22 @@ use std::process::ExitCode;
 const HELP: &str = "\
 usage: rad_node COMMAND
 
-Keeps repositories of the Radicle network in a store: identities, and the signed branches of each
-person, as they were accepted.
+Keeps repositories of the Radicle network in a store: identities, and the
+signed branches of each person, as they were accepted.
 
-  rad_node init STORE                   make an empty store; a file that is no store loses its
-                                        first nine bytes
-  rad_node import STORE KEYRING BUNDLE  take what a bundle offers into the store, and report it
-  rad_node show STORE KEYRING           print each repository's identity and remotes
+  rad_node init STORE                   make an empty store; a file that is no
+                                        store loses its first nine bytes
+  rad_node import STORE KEYRING BUNDLE  take what a bundle offers into the
+                                        store, and report it
+  rad_node show STORE KEYRING           print each repository's identity and
+                                        remotes
   rad_node heads STORE KEYRING          print each repository's canonical head
-  rad_node audit STORE KEYRING          read the whole store again, and print what it counts
-  rad_node frames FILE                  print each frame of recorded bytes of a link
-  rad_node gen STORE COMMITS            import a repository that is made by rule, and report it
+  rad_node audit STORE KEYRING          read the whole store again, and print
+                                        what it counts
+  rad_node frames FILE                  print each frame of recorded bytes of
+                                        a link
+  rad_node gen STORE COMMITS            import a repository that is made by
+                                        rule, and report it
 
   STORE    the file of the store
   KEYRING  the file of names and accepted signatures
@@ -60,11 +65,22 @@ for example:
   rad_node init store
   rad_node import store demo/fixture.keys demo/fixture.bundle
 
-exit status: 0 done; 1 no command; 2 a file is not read; 3 the report is not written; 4 the store's
-file failed; 5 no store is made; 6 the store is damaged; 7 the keyring is broken at a line; 9 the
-bundle or the frames are broken at a byte; 10 something was refused; 11 the store is full; 12 an entry of the store
-is not legal under the keyring; 13 a store is made already; 15 an object that is read back is
-another, which no command meets yet; 70 no memory
+exit status:
+   0  done
+   1  no command
+   2  a file is not read
+   3  the report is not written
+   4  the store's file failed
+   5  no store is made
+   6  the store is damaged
+   7  the keyring is broken at a line
+   9  the bundle or the frames are broken at a byte
+  10  something was refused
+  11  the store is full
+  12  an entry of the store is not legal under the keyring
+  13  a store is made already
+  15  an object that is read back is another, which no command meets yet
+  70  no memory
 ";
 
 const VERSION: &str = "rad_node 0.1.0\n";
