@@ -89,6 +89,7 @@ fn histories_are_those_of_git(rt: HostRuntime) -> Result<(), Fail> {
     let history = history_of(alloc, &mut objects, &left)?;
     assert!(rt; history.contains(&root));
     assert!(rt; !history.contains(&right));
+    let mut objects = FailingObjects::new(&store, Failure::Disk, u64::MAX);
     let line = chain(alloc, &mut objects, &right)?;
     assert_eq!(rt; line.as_slice(), [root, right].as_slice());
     let fault = chain(alloc, &mut objects, &merge).err();
