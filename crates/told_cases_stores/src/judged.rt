@@ -2,7 +2,7 @@
 use crate::stores::keyring_of;
 use canonical_head::answer::Head;
 use keyring::Keyring;
-use rad_base::{Bytes, Nids, Offer, Oid, Remotes, Rid};
+use rad_base::{Bytes, Nids, NoMemory, Offer, Oid, Remotes, Rid};
 use repo_slice::{Batch, Entry, Judged, Scope, Slice, Stage, Whole, judge, wants};
 use report_texts::{push_head, push_id_outcome, push_outcome, push_whole};
 use std::alloc::Global;
@@ -61,32 +61,37 @@ fn scope_of(alloc: Global, rest: &str) -> Option<Scope> {
     Some(Scope::Followed(nodes))
 }
 
-// Puts an object into a slice.
-fn put(alloc: Global, slice: &mut Slice, word: &str, digits: &str) -> Option<()> {
-    let kind = kind_of(word)?;
-    let content = bytes_of(alloc, digits)?;
-    let mut batch = Batch::new(alloc);
-    batch.push(kind, Bytes::of(content)).ok()?;
-    let names = batch.names(alloc).ok()?;
+// Puts the objects of a batch into a slice.
+fn put(alloc: Global, slice: &mut Slice, batch: &Batch) -> Result<(), NoMemory> {
+    let names = batch.names(alloc)?;
     let entry = Entry::Put {
         rid: *slice.rid(),
         names,
         caller: 0,
     };
-    slice.stage(alloc, &entry, &batch).ok()?;
-    slice.admit(alloc, &entry).ok()
+    slice.stage(alloc, &entry, batch)?;
+    slice.admit(alloc, &entry)
+}
+
+// The batch of one object: a kind and digits.
+fn batch_of(alloc: Global, text: &str) -> Option<Batch> {
+    let (word, digits) = cut(text);
+    let content = bytes_of(alloc, digits)?;
+    let mut batch = Batch::new(alloc);
+    batch.push(kind_of(word)?, Bytes::of(content)).ok()?;
+    Some(batch)
 }
 
 // Installs what was judged.
-fn install(alloc: Global, slice: &mut Slice, judged: Judged) -> Option<()> {
+fn install(alloc: Global, slice: &mut Slice, judged: Judged) -> Result<(), NoMemory> {
     let entry = Entry::Install {
         rid: *slice.rid(),
         id: judged.next_id,
         remotes: judged.advanced,
         caller: 0,
     };
-    slice.stage(alloc, &entry, &Batch::new(alloc)).ok()?;
-    slice.admit(alloc, &entry).ok()
+    slice.stage(alloc, &entry, &Batch::new(alloc))?;
+    slice.admit(alloc, &entry)
 }
 
 // The words of a head.
@@ -162,8 +167,8 @@ impl Offers {
 
     // Puts an object into the last slice.
     fn put(&mut self, alloc: Global, rest: &str) -> Option<()> {
-        let (word, digits) = cut(rest);
-        put(alloc, self.slices.last_mut()?, word, digits)
+        let batch = batch_of(alloc, rest)?;
+        put(alloc, self.slices.last_mut()?, &batch).ok()
     }
 
     // The nodes that are asked for at a stage.
@@ -216,7 +221,7 @@ impl Offers {
             return format!(in alloc; "{all} outcomes").ok();
         }
         let slice = self.slices.last_mut()?;
-        install(alloc, slice, judged)?;
+        install(alloc, slice, judged).ok()?;
         match slice.head(alloc, &self.keyring).ok()? {
             Some(found) => head_text(alloc, &found),
             None => text(alloc, "no identity"),

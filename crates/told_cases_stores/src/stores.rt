@@ -1,5 +1,5 @@
 // Stores that are opened over journals in memory.
-ghost use Rattle.std.specs.Prelude.{IfOk, IfSome};
+ghost use Rattle.std.specs.Prelude.{IfSome};
 ghost use Rattle.object_store.specs.Stores.{StandsForSome};
 
 use crate::replies::{reply, request_of};
@@ -24,19 +24,6 @@ pub struct Opening {
 /// The keyring of digits. None: they are none, it is refused, or memory was.
 pub fn keyring_of(alloc: Global, digits: &str) -> Option<Keyring> {
     Keyring::read(alloc, &bytes_of(alloc, digits)?).ok()
-}
-
-// What opening a journal under a keyring gives, each in digits. None: they are none, or memory was
-// refused. A store stands for some entries.
-fn store_of(alloc: Global, keyring: &str, journal: &str) -> Option<Result<Store<MemDisk>, Why>>
-    ensures { IfSome result (λ opened. IfOk opened StandsForSome) }
-{
-    let keyring = keyring_of(alloc, keyring)?;
-    let disk = MemDisk::new(alloc, bytes_of(alloc, journal)?, Vec::new(alloc));
-    match Store::open(alloc, disk, keyring) {
-        Ok(store) => Some(Ok(store)),
-        Err(fault) => Some(Err(fault.why)),
-    }
 }
 
 // The words of a refusal.
@@ -94,58 +81,55 @@ fn report(alloc: Global, mut store: Store<MemDisk>, word: &str) -> Option<Bytes>
 }
 
 impl Opening {
-    // What opening gives.
-    fn open(&self, alloc: Global) -> Option<Result<Store<MemDisk>, Why>>
-        ensures { IfSome result (λ opened. IfOk opened StandsForSome) }
-    {
-        store_of(alloc, self.keyring.as_str(), self.journal.as_str())
+    // A disk with the journal.
+    fn disk(&self, alloc: Global) -> Option<MemDisk> {
+        let bytes = bytes_of(alloc, self.journal.as_str())?;
+        Some(MemDisk::new(alloc, bytes, Vec::new(alloc)))
     }
 
     // The words of what opening gives.
     fn opened(&self, alloc: Global) -> Option<String> {
-        match self.open(alloc)? {
+        let keyring = keyring_of(alloc, self.keyring.as_str())?;
+        match Store::open(alloc, self.disk(alloc)?, keyring) {
             Ok(store) => opened_text(alloc, &store),
-            Err(why) => why_text(alloc, why),
+            Err(fault) => why_text(alloc, fault.why),
+        }
+    }
+
+    // The store, if it is opened.
+    fn store(&self, alloc: Global) -> Option<Store<MemDisk>>
+        ensures { IfSome result StandsForSome }
+    {
+        let keyring = keyring_of(alloc, self.keyring.as_str())?;
+        match Store::open(alloc, self.disk(alloc)?, keyring) {
+            Ok(store) => Some(store),
+            Err(_) => None,
         }
     }
 
     // What stands of a repository.
     fn slice(&self, alloc: Global, digits: &str) -> Option<String> {
-        let rid = Rid(oid_of(digits)?);
-        match self.open(alloc)? {
-            Ok(store) => slice_text(alloc, store.slice(&rid)?),
-            Err(why) => why_text(alloc, why),
-        }
+        let store = self.store(alloc)?;
+        slice_text(alloc, store.slice(&Rid(oid_of(digits)?))?)
     }
 
     // The names that are told of a repository.
     fn have(&self, alloc: Global, digits: &str) -> Option<String> {
-        let rid = Rid(oid_of(digits)?);
-        match self.open(alloc)? {
-            Ok(store) => have_text(alloc, &store, &rid),
-            Err(why) => why_text(alloc, why),
-        }
+        have_text(alloc, &self.store(alloc)?, &Rid(oid_of(digits)?))
     }
 
     // The reply to the request that digits are.
     fn reply(&self, alloc: Global, digits: &str, asker: &str) -> Option<String> {
         let request = request_of(alloc, &bytes_of(alloc, digits)?)?;
-        match self.open(alloc)? {
-            Ok(store) => reply(alloc, store, &request, &nid_of(asker)?),
-            Err(why) => why_text(alloc, why),
-        }
+        reply(alloc, self.store(alloc)?, &request, &nid_of(asker)?)
     }
 
     // What a command prints, in digits.
     fn report(&self, alloc: Global, word: &str) -> Option<String> {
-        match self.open(alloc)? {
-            Ok(store) => {
-                let mut words = Line::new(alloc);
-                words.bytes(alloc, report(alloc, store, word)?.as_slice())?;
-                Some(words.into_string())
-            }
-            Err(why) => why_text(alloc, why),
-        }
+        let bytes = report(alloc, self.store(alloc)?, word)?;
+        let mut words = Line::new(alloc);
+        words.bytes(alloc, bytes.as_slice())?;
+        Some(words.into_string())
     }
 }
 
