@@ -110,14 +110,17 @@ fn put_tips(
 fn sections_are_put_as_far_as_they_go(rt: HostRuntime) -> Result<(), Fail> {
     let alloc = rt.alloc();
     let (end, puts) = put_tips(alloc, TIPS, &[], 9)?;
-    assert_eq!(rt; (end, puts.as_slice()), (Ok(19), [2].as_slice()));
+    assert_eq!(rt; end, Ok(19));
+    assert_eq!(rt; puts.as_slice(), [2].as_slice());
     let (end, puts) = put_tips(alloc, b"DO\x03\0\0\0\x02abO\x04\0", &[], 9)?;
-    assert_eq!(rt; (end, puts.len()), (Err(SectionStop::Ends(9)), 0));
+    assert_eq!(rt; end, Err(SectionStop::Ends(9)));
+    assert_eq!(rt; puts.len(), 0);
     let (end, puts) = put_tips(alloc, TIPS, &[1], 9)?;
-    assert_eq!(rt; (end, puts.len()), (Err(SectionStop::ReadFault), 0));
+    assert_eq!(rt; end, Err(SectionStop::ReadFault));
+    assert_eq!(rt; puts.len(), 0);
     let (end, puts) = put_tips(alloc, TIPS, &[], 0)?;
-    let refused = SectionStop::Keep(KeepFault::DiskFault);
-    assert_eq!(rt; (end, puts.as_slice()), (Err(refused), [0].as_slice()));
+    assert_eq!(rt; end, Err(SectionStop::Keep(KeepFault::DiskFault)));
+    assert_eq!(rt; puts.as_slice(), [0].as_slice());
     Ok(())
 }
 
