@@ -105,13 +105,13 @@ fn told(
     offer: &Offer,
     keyring: &Keyring,
 ) -> Result<String, Fail> {
-    if slice.remotes().as_slice().len() > 1024 {
-        return Ok(String::new(alloc));
-    }
     let scope = Scope::All;
     let sigs = wants(alloc, slice, offer, keyring, &scope, Stage::Sigs)?;
     let tips = wants(alloc, slice, offer, keyring, &scope, Stage::Tips)?;
     let (sigs, tips) = (sigs.as_slice().len(), tips.as_slice().len());
+    if slice.remotes().as_slice().len() > 1024 {
+        return Ok(String::new(alloc));
+    }
     match judge(alloc, slice, offer, keyring, &scope)? {
         Ok(judged) => {
             let (id, remotes) = (judged.id_outcome, judged.outcomes.as_slice());
