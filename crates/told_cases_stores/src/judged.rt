@@ -154,11 +154,11 @@ impl Offers {
     fn turn_to(&mut self, alloc: Global, rid: Rid) -> Option<()> {
         let mut others = Vec::new(alloc);
         let mut found = Slice::new(alloc, &rid);
-        while let Some(slice) = self.slices.pop() {
-            if *slice.rid() == rid {
-                found = slice;
-            } else {
-                others.push(slice).ok()?;
+        for _ in 0..self.slices.len() {
+            match self.slices.pop() {
+                Some(slice) if *slice.rid() == rid => found = slice,
+                Some(slice) => others.push(slice).ok()?,
+                None => {}
             }
         }
         self.slices = others;
