@@ -98,6 +98,20 @@ fn install(alloc: Global, slice: &mut Slice, judged: Judged) -> Result<(), Fail>
     Ok(())
 }
 
+// What becomes of an offer.
+fn verdict(
+    alloc: Global,
+    slice: &mut Slice,
+    offer: &Offer,
+    keyring: &Keyring,
+    scope: &Scope,
+) -> Result<Result<Judged, Whole>, Fail> {
+    if slice.remotes().as_slice().len() > 1024 {
+        return Ok(Err(Whole::IdForked));
+    }
+    Ok(judge(alloc, slice, offer, keyring, scope)?)
+}
+
 // What is asked for at both stages, and what becomes of the offer. What may be installed is.
 fn told(
     alloc: Global,
@@ -109,10 +123,7 @@ fn told(
     let sigs = wants(alloc, slice, offer, keyring, &scope, Stage::Sigs)?;
     let tips = wants(alloc, slice, offer, keyring, &scope, Stage::Tips)?;
     let (sigs, tips) = (sigs.as_slice().len(), tips.as_slice().len());
-    if slice.remotes().as_slice().len() > 1024 {
-        return Ok(String::new(alloc));
-    }
-    match judge(alloc, slice, offer, keyring, &scope)? {
+    match verdict(alloc, slice, offer, keyring, &scope)? {
         Ok(judged) => {
             let (id, remotes) = (judged.id_outcome, judged.outcomes.as_slice());
             let line = format!(in alloc; "{sigs} {tips} {id:?} {}", is_one(remotes))?;
